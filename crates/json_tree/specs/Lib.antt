@@ -1,0 +1,3 @@
+pub mod Document
+pub mod Members
+pub mod Tree

@@ -1,0 +1,71 @@
+ghost use Rattle.std.specs.Prelude.{◌≡◌, IfOk, map};
+ghost use Rattle.serde_json.specs.Data.{null, boolean, number, unsigned, string};
+
+use crate::name::Name;
+use std::alloc::{AllocError, Global};
+use std::collections::BTreeMap;
+
+/// A JSON value (RFC 8259). Numbers are the whole numbers 0 to 2^64 - 1.
+#[derive(Debug, Drop)]
+pub enum Tree {
+    Null,
+    Bool(bool),
+    Num(u64),
+    Text(Name),
+    List(Vec<Tree>),
+    /// The members, in the byte order of their names.
+    Object(BTreeMap<Name, Tree>),
+}
+
+impl Tree {
+    ghost use Rattle.json_tree.specs.Document.{array_of};
+    ghost use Rattle.json_tree.specs.Tree.{data_of};
+
+    /// A text value with a copy of the text.
+    #[tactic(auto, unfolding(crate::specs::Tree::data_of))]
+    pub fn text(alloc: Global, text: &str) -> Result<Tree, AllocError>
+        ensures { IfOk result (λ tree. data_of tree ≡ string text.now) }
+    {
+        Ok(Tree::Text(Name::from_str(alloc, text)?))
+    }
+
+    /// A text value of a text that the caller gives away. Takes no memory.
+    #[tactic(auto, unfolding(crate::specs::Tree::data_of))]
+    pub fn from_name(name: Name) -> Tree
+        ensures { data_of result ≡ string name }
+    {
+        Tree::Text(name)
+    }
+
+    /// Takes no memory.
+    #[tactic(auto, unfolding(crate::specs::Tree::data_of))]
+    pub fn null() -> Tree
+        ensures { data_of result ≡ null }
+    {
+        Tree::Null
+    }
+
+    /// Takes no memory.
+    #[tactic(auto, unfolding(crate::specs::Tree::data_of))]
+    pub fn boolean(truth: bool) -> Tree
+        ensures { data_of result ≡ boolean truth }
+    {
+        Tree::Bool(truth)
+    }
+
+    /// Takes no memory.
+    #[tactic(auto, unfolding(crate::specs::Tree::data_of))]
+    pub fn number(n: u64) -> Tree
+        ensures { data_of result ≡ number (unsigned n) }
+    {
+        Tree::Num(n)
+    }
+
+    /// Takes no memory.
+    #[tactic(auto, unfolding(crate::specs::Tree::data_of))]
+    pub fn list(trees: Vec<Tree>) -> Tree
+        ensures { data_of result ≡ array_of (map data_of trees.items) }
+    {
+        Tree::List(trees)
+    }
+}
