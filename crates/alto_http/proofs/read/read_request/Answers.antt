@@ -1,0 +1,57 @@
+use Rattle.std.proofs.Common.{◌≡◌, ℕ, List, take, drop, subst, ap, ◌∙◌, arith}
+use Rattle.alto_http.specs.declared.fault.HeadFault.TheVariants.{TooLarge}
+use Rattle.alto_http.specs.Request.{Passes, FailsBy}
+use Rattle.alto_http.proofs.Ahead.{ahead_whole, whole_same, whole_taken}
+use Rattle.alto_http.proofs.Answered.{refused_long, refused_head, cut_in_body, begins_with}
+use Rattle.alto_http.proofs.read.read_request.Goals as goal
+
+pub returns-in-Err-clause-refused : goal.returns-in-Err-clause-refused
+returns-in-Err-clause-refused g c other read memory =
+    let long : c.in-Err.fault ≡ TooLarge = grind (arith, c.in-Err.ensures.causes) in
+    refused_long _ _ _ _ (ahead_whole _ _ _ _ c.find_head.ensures.ahead) (c.in-Err.ensures.too_large (cc)) long
+
+pub returns-in-Err-read_head-clause-refused : goal.returns-in-Err-read_head-clause-refused
+returns-in-Err-read_head-clause-refused g c other read memory =
+    let place = c.in-Ok-Some.place in
+    let at = rw c.in-Ok-Some.field-0-is at c.in-Ok-Some.ensures.found in
+    let here : c.part-head.result.now ≡ take place.1 (drop place.0 c.find_head.new.intake) =
+    c.part-head.ensures ∙ ap (λ xs. take place.1 (drop place.0 xs)) c.bytes.ensures.bytes in
+    let P : List ℕ → Type 0 = λ head. FailsBy head c.in-Err-read_head.fault in
+    refused_head _ _ _ place.0 place.1 _ (ahead_whole _ _ _ _ c.find_head.ensures.ahead) at
+    (subst P here (c.in-Err-read_head.ensures.err memory))
+
+pub returns-in-Err-read_head-clause-whole : goal.returns-in-Err-read_head-clause-whole
+returns-in-Err-read_head-clause-whole g c = whole_same _ _ _ _ c.find_head.ensures.ahead
+
+pub returns-in-Ok-take_body-clause-request : goal.returns-in-Ok-take_body-clause-request
+returns-in-Ok-take_body-clause-request g c =
+    let place = c.in-Ok-Some.place in
+    let read = c.in-Ok.read in
+    let at = rw c.in-Ok-Some.field-0-is at c.in-Ok-Some.ensures.found in
+    let here : c.part-head.result.now ≡ take place.1 (drop place.0 c.find_head.new.intake) =
+    c.part-head.ensures ∙ ap (λ xs. take place.1 (drop place.0 xs)) c.bytes.ensures.bytes in
+    let P : List ℕ → Type 0 = λ head. Passes head read.0 read.1 in
+    begins_with _ _ _ _ _ place.0 place.1 read.0 _ c.in-Ok-take_body.body.items read.1
+    (ahead_whole _ _ _ _ c.find_head.ensures.ahead) at (subst P here c.in-Ok.ensures.ok)
+    c.in-Ok-take_body.ensures.size (rw c.consume.ensures at c.in-Ok-take_body.ensures.ok) c.with_body.ensures
+
+pub returns-in-Ok-take_body-clause-whole : goal.returns-in-Ok-take_body-clause-whole
+returns-in-Ok-take_body-clause-whole g c =
+    whole_taken _ _ _ _ _ _ _ c.find_head.ensures.ahead (c.in-Ok-take_body.body.items, rw c.consume.ensures at c.in-Ok-take_body.ensures.ok)
+
+pub returns-in-Err-take_body-clause-cut : goal.returns-in-Err-take_body-clause-cut
+returns-in-Err-take_body-clause-cut g c is =
+    let place = c.in-Ok-Some.place in
+    let read = c.in-Ok.read in
+    let at = rw c.in-Ok-Some.field-0-is at c.in-Ok-Some.ensures.found in
+    let here : c.part-head.result.now ≡ take place.1 (drop place.0 c.find_head.new.intake) =
+    c.part-head.ensures ∙ ap (λ xs. take place.1 (drop place.0 xs)) c.bytes.ensures.bytes in
+    let P : List ℕ → Type 0 = λ head. Passes head read.0 read.1 in
+    let cut = c.in-Err-take_body.ensures.cut (cc) in
+    cut_in_body _ _ _ place.0 place.1 read.0 read.1
+    (ahead_whole _ _ _ _ c.find_head.ensures.ahead) at (subst P here c.in-Ok.ensures.ok)
+    (rw c.consume.ensures at cut.1)
+
+pub returns-in-Err-take_body-clause-whole : goal.returns-in-Err-take_body-clause-whole
+returns-in-Err-take_body-clause-whole g c =
+    whole_taken _ _ _ _ _ _ _ c.find_head.ensures.ahead (rw c.consume.ensures at c.in-Err-take_body.ensures.err)

@@ -1,0 +1,7 @@
+pub mod Fields
+pub mod Head
+pub mod Intake
+pub mod Link
+pub mod MemLink
+pub mod Request
+pub mod Splits

@@ -1,0 +1,53 @@
+-- What the bytes of a connection begin with: a request, or why there is none (RFC 9112, section 2).
+use Rattle.std.specs.Prelude.{◌≡◌, ◌⊎◌, ℕ, ◌+◌, ◌-◌, ◌<◌, ◌≤◌, List, [], ◌++◌, length, take, drop}
+use Rattle.alto_http.specs.declared.fault.HeadFault.{HeadFault}
+use Rattle.alto_http.specs.declared.fault.HeadFault.TheVariants.{TooLarge}
+use Rattle.alto_http.specs.Head.{breaks_before, HasNoEnd, IsHeadEnd}
+use Rattle.alto_http.specs.Request.{RequestData, Passes, FailsBy}
+
+-- the most bytes that stand before the end of a head, with the line breaks before it
+abbrev pub head_limit : ℕ
+head_limit = 16384
+
+-- a head of so many bytes stands behind so many line breaks
+pub record IsHeadAt (bytes : List ℕ) (start size : ℕ) : Type 0 where
+  pub behind_breaks : start ≡ breaks_before bytes
+  pub ends : IsHeadEnd (drop start bytes) size
+  pub within : start + size ≤ head_limit
+
+-- there are line breaks alone, and room for a head behind them
+abbrev pub IsBlank : List ℕ → Type 0
+IsBlank bytes = (breaks_before bytes ≡ length bytes) × (length bytes < head_limit)
+
+-- as many bytes as a head may have hold no end of one
+abbrev pub IsTooLong : List ℕ → Type 0
+IsTooLong bytes =
+    (head_limit ≤ length bytes) × HasNoEnd (head_limit - breaks_before bytes) (drop (breaks_before bytes) bytes)
+
+-- the bytes end inside a head that may still end
+abbrev pub EndsInHead : List ℕ → Type 0
+EndsInHead bytes =
+    (length bytes < head_limit) × (breaks_before bytes < length bytes)
+    × HasNoEnd (length (drop (breaks_before bytes) bytes)) (drop (breaks_before bytes) bytes)
+
+-- the bytes begin with this request, and the rest follows it
+pub record Begins (bytes : List ℕ) (request : RequestData) (rest : List ℕ) : Type 0 where
+  pub start : ℕ
+  pub size : ℕ
+  pub head : IsHeadAt bytes start size
+  pub passes : Passes (take size (drop start bytes)) (record request { body = [] }) (length request.body)
+  pub body : drop (start + size) bytes ≡ request.body ++ rest
+
+-- the bytes begin with what is no request, and this check is the first that fails
+abbrev pub IsRefused : List ℕ → HeadFault → Type 0
+IsRefused bytes fault =
+    (IsTooLong bytes × (fault ≡ TooLarge))
+    ⊎ ((start : ℕ) × (size : ℕ) × IsHeadAt bytes start size × FailsBy (take size (drop start bytes)) fault)
+
+-- the bytes end inside a request: in its head, or in its body
+abbrev pub EndsInside : List ℕ → Type 0
+EndsInside bytes =
+    EndsInHead bytes
+    ⊎ ((start : ℕ) × (size : ℕ) × (request : RequestData) × (length_of_body : ℕ) × IsHeadAt bytes start size
+    × Passes (take size (drop start bytes)) request length_of_body
+    × (length (drop (start + size) bytes) < length_of_body))

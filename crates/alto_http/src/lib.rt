@@ -1,0 +1,29 @@
+//! The edge where bytes become HTTP/1.1 requests (RFC 9112), and replies become bytes.
+//!
+//! ```text
+//! Link ── read ──▶ Intake ── read_request ──▶ Request
+//! Link ◀─ write ───────────── write_all ◀──── reply bytes
+//! ```
+#![tactic(auto)]
+
+mod fault;
+mod fields;
+mod head;
+mod intake;
+mod link;
+mod mem_link;
+mod read;
+mod receive;
+mod request;
+mod scan;
+#[cfg(test)]
+mod tests;
+mod write;
+
+pub use fault::HeadFault;
+pub use intake::Intake;
+pub use link::{Failed, Link};
+pub use mem_link::MemLink;
+pub use read::read_request;
+pub use request::{Request, Verb};
+pub use write::{WriteFault, write_all};
