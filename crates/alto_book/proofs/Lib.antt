@@ -1,0 +1,13 @@
+pub mod AcceptanceLemmas
+pub mod BatchLemmas
+pub mod BookLaws
+pub mod EditLemmas
+pub mod FitLemmas
+pub mod GrownLemmas
+pub mod NumberLemmas
+pub mod OpeningLemmas
+pub mod RepeatLemmas
+pub mod SameLemmas
+pub mod SequenceLemmas
+pub mod SoundLemmas
+pub mod StateLemmas

@@ -1,0 +1,8 @@
+use Rattle.alto_book.proofs.BookLaws.{refusal_changes_nothing, known_id_changes_nothing}
+use Rattle.alto_book.proofs.laws.acceptance_is_refused_whole.Goals as goal
+
+pub returns-clause-refused : goal.returns-clause-refused
+returns-clause-refused c = refusal_changes_nothing
+
+pub returns-clause-known : goal.returns-clause-known
+returns-clause-known c = known_id_changes_nothing

@@ -1,0 +1,6 @@
+pub mod Import
+pub mod Faults
+pub mod Book
+pub mod Acceptance
+pub mod Legal
+pub mod Laws
