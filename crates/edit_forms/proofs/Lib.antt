@@ -1,0 +1,4 @@
+pub mod ColumnLemmas
+pub mod RecordLemmas
+pub mod FieldLemmas
+pub mod EditLemmas

@@ -1,0 +1,54 @@
+ghost use Rattle.std.specs.Prelude.{◌≡◌, ◌≢◌, List, Ok, Err, IfOk, IfErr, All};
+ghost use Rattle.csv.specs.Records.{fields_of};
+ghost use Rattle.alto_rules.specs.Rules.{IsEdit};
+ghost use Rattle.edit_forms.specs.Columns.{record_edit};
+ghost use Rattle.edit_forms.specs.Csv.{csv_edits, records_edits};
+
+use crate::fault::FormFault;
+use crate::records::{Records, columns_of};
+use alto_rules::Edit;
+use csv::ByteRecord;
+use std::alloc::Global;
+
+/// Reads a CSV body (RFC 4180): the edits of its records, past a byte order mark and a header line. The fault is the
+/// first in the order of rows and columns. The time is linear in the body.
+pub fn read_csv(alloc: Global, body: &[u8]) -> Result<Vec<Edit>, FormFault>
+    ensures ok { IfOk result (λ edits. csv_edits body.now ≡ Ok edits.items) }
+    ensures err { IfErr result (λ fault. fault ≢ FormFault.Memory → csv_edits body.now ≡ Err fault) }
+    ensures edits { IfOk result (λ edits. All IsEdit edits.items) }
+{
+    let mut records = Records::open(alloc, body)?;
+    records.pass_header()?;
+    let edits = edits_of(alloc, &mut records)?;
+    if edits.is_empty() {
+        return Err(FormFault::Empty);
+    }
+    Ok(edits)
+}
+
+/// The edits of the records that are left, which are numbered from 1.
+fn edits_of(alloc: Global, records: &mut Records<'_>) -> Result<Vec<Edit>, FormFault>
+    ensures ok { IfOk result (λ edits. records_edits 1 records.old ≡ Ok edits.items) }
+    ensures err { IfErr result (λ fault. fault ≢ FormFault.Memory → records_edits 1 records.old ≡ Err fault) }
+    ensures edits { IfOk result (λ edits. All IsEdit edits.items) }
+{
+    let mut edits = Vec::new(alloc);
+    while let Some(at_hand) = records.at_hand() {
+        let row = edits.len() as u64 + 1;
+        edits.push(edit_of(alloc, row, at_hand)?)?;
+        records.advance()?;
+    }
+    Ok(edits)
+}
+
+/// The edit of the record of this number.
+fn edit_of(alloc: Global, row: u64, fields: &ByteRecord) -> Result<Edit, FormFault>
+    ensures ok { IfOk result (λ edit. record_edit row (fields_of fields.now) ≡ Ok edit) }
+    ensures err { IfErr result (λ fault. fault ≢ FormFault.Memory → record_edit row (fields_of fields.now) ≡ Err fault) }
+    ensures edit { IfOk result IsEdit }
+{
+    match columns_of(fields) {
+        Some(columns) => columns.row_edit(alloc, row),
+        None => Err(FormFault::BadRecord(row)),
+    }
+}
