@@ -1,0 +1,4 @@
+pub mod PidLemmas
+pub mod GoodLemmas
+pub mod NamedLemmas
+pub mod ExampleLemmas

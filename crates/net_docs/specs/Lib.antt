@@ -1,0 +1,2 @@
+pub mod NetworkMap
+pub mod Examples

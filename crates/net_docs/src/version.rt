@@ -1,0 +1,36 @@
+ghost use Rattle.std.specs.Prelude.{◌≡◌, IfOk};
+ghost use Rattle.alto_rows.specs.Versions.{epoch_of, version_of, tag_of};
+
+use alto_rows::{Key, Resource, RowStore, Value};
+use json_tree::Name;
+use std::alloc::{AllocError, Global};
+
+/// The tag of the version that a resource has reached (RFC 7285, section 10.3): the epoch, a hyphen and the number.
+/// Two searches.
+pub fn tag<R: RowStore>(alloc: Global, rows: &R, of: &Resource) -> Result<Name, AllocError>
+    ensures { IfOk result (λ tag. tag ≡ tag_of (R.rows rows.now) of.now) }
+{
+    let epoch = epoch(rows);
+    let version = version(rows, of)?;
+    Ok(Name::new(format!(in alloc; "{epoch}-{version}")?))
+}
+
+/// The epoch of the rows, empty where they have none.
+fn epoch<R: RowStore>(rows: &R) -> &str
+    ensures { result.now ≡ epoch_of (R.rows rows.now) }
+{
+    match rows.get(&Key::Epoch) {
+        Some(Value::Text(epoch)) => epoch.as_str(),
+        _ => "",
+    }
+}
+
+/// The number of the version that a resource has reached, 0 before its first.
+fn version<R: RowStore>(rows: &R, of: &Resource) -> Result<u64, AllocError>
+    ensures { IfOk result (λ number. number ≡ version_of (R.rows rows.now) of.now) }
+{
+    match rows.get(&Key::Seq(of.clone()?)) {
+        Some(Value::Num(number)) => Ok(*number),
+        _ => Ok(0),
+    }
+}
