@@ -1,0 +1,18 @@
+//! The accepting side of the server: a book of batches, the rows that they lead to, and the versions that are handed out.
+//!
+//! ```text
+//! import ──▶ Desk::edit ──▶ receipt
+//!              │ compile, with            Front { n, rows }  ◀── Desk::front ── every reader
+//!              └────────────────────────▶ a new one for each batch; what no write touched is shared
+//! ```
+#![tactic(auto)]
+
+mod desk;
+mod front;
+mod known;
+#[cfg(test)]
+mod tests;
+
+pub use alto_book::{Command, EditFault, Receipt};
+pub use desk::Desk;
+pub use front::Front;
