@@ -1,0 +1,6 @@
+pub mod Reply
+pub mod Target
+pub mod Routes
+pub mod Replies
+pub mod Answers
+pub mod Turns

@@ -1,0 +1,68 @@
+ghost use Rattle.std.specs.Prelude.{◌≡◌, IfOk};
+ghost use Rattle.sha2.specs.Sha256.{sha256};
+ghost use Rattle.alto_http.specs.declared.request.Verb.TheVariants as verb;
+ghost use Rattle.alto_names.specs.Name.{named, is_import_byte};
+ghost use Rattle.edit_forms.specs.Csv.{csv_edits};
+ghost use Rattle.alto_serve.specs.Answers.{BringsEdits, import_of, import_under, edits_answer};
+ghost use Rattle.alto_serve.specs.Target.{segment};
+
+use crate::content::has_type;
+use crate::outcome::Answer;
+use crate::replies::{bad_form, form_reply, status_alone, wrong_method};
+use crate::target::segment;
+use alto_desk::Command;
+use alto_http::{Request, Verb};
+use alto_names::{ImportId, NameFault};
+use edit_forms::{FormFault, read_csv};
+use sha2::{Digest, Sha256};
+use std::alloc::{AllocError, Global};
+
+/// What a request comes to whose path leads to `/edits/{id}`.
+pub(crate) fn edits(alloc: Global, request: &Request, path: &[u8]) -> Result<Answer, AllocError>
+    ensures answer { IfOk result (λ answer. answer
+        ≡ edits_answer request.now.verb request.now.content_type (segment path.now 2) request.now.body) }
+    ensures edits { IfOk result BringsEdits }
+{
+    match request.verb {
+        Verb::Post => posted(alloc, request, path),
+        Verb::Get | Verb::Other => Ok(Answer::Reply(wrong_method(alloc, Verb::Post)?)),
+    }
+}
+
+fn posted(alloc: Global, request: &Request, path: &[u8]) -> Result<Answer, AllocError>
+    ensures answer { IfOk result (λ answer. answer
+        ≡ edits_answer verb.Post request.now.content_type (segment path.now 2) request.now.body) }
+    ensures edits { IfOk result BringsEdits }
+{
+    if !has_type(request, b"text/csv") {
+        return Ok(Answer::Reply(status_alone(alloc, 415)?));
+    }
+    let id = segment(alloc, path, 2)?;
+    import_under(alloc, &id, &request.body)
+}
+
+fn import_under(alloc: Global, id: &[u8], body: &[u8]) -> Result<Answer, AllocError>
+    ensures answer { IfOk result (λ answer. answer ≡ import_under (named is_import_byte 64 id.now) body.now) }
+    ensures edits { IfOk result BringsEdits }
+{
+    match ImportId::read(alloc, id) {
+        Ok(id) => import_of(alloc, id, body),
+        Err(NameFault::Memory) => Err(AllocError),
+        Err(_) => Ok(Answer::Reply(bad_form(alloc, 0, 0)?)),
+    }
+}
+
+fn import_of(alloc: Global, id: ImportId, body: &[u8]) -> Result<Answer, AllocError>
+    ensures answer { IfOk result (λ answer. answer ≡ import_of id (sha256 body.now) (csv_edits body.now)) }
+    ensures edits { IfOk result BringsEdits }
+{
+    match read_csv(alloc, body) {
+        Ok(edits) => Ok(Answer::Edit(Command {
+            id,
+            digest: Sha256::digest(body),
+            edits,
+        })),
+        Err(FormFault::Memory) => Err(AllocError),
+        Err(fault) => Ok(Answer::Reply(form_reply(alloc, fault)?)),
+    }
+}

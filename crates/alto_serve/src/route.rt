@@ -1,0 +1,19 @@
+/// Who may ask: applications at the public side, the operator at the other. One connection may be both.
+#[derive(Clone, Copy, Debug, PartialEq, Eq)]
+pub enum Side {
+    /// Applications that read.
+    Public,
+    /// The operator, who imports.
+    Operator,
+    /// Both at once.
+    Both,
+}
+
+/// Where a route leads.
+#[derive(Clone, Copy, Debug, PartialEq, Eq)]
+pub enum Place {
+    /// `/maps/{resource}`: the document of a resource.
+    Maps,
+    /// `/edits/{id}`: an import.
+    Edits,
+}
