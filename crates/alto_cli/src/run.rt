@@ -1,0 +1,97 @@
+ghost use Rattle.std.specs.Prelude.{◌≡◌, ◌≢◌, ◌⊎◌, ◌↔◌, IsTrue};
+ghost use Rattle.alto_cli.specs.Words.{IsPipe};
+ghost use Rattle.alto_cli.specs.Status.{reads_at, writes_at, status_of};
+
+use alto_desk::Desk;
+use alto_http::{Link, write_all};
+use alto_names::Epoch;
+use alto_rows::PlainRows;
+use alto_serve::{Clock, End, Side, serve_conn};
+use json_tree::Name;
+use std::alloc::{AllocError, Global};
+
+/// The words that open a store's connection on the console.
+const PIPE: &str = "pipe";
+
+/// What the program prints where its words are outside the grammar.
+const WORDS_FAULT: &[u8] = b"words outside the grammar\n";
+
+/// The epoch and the window of a book that starts in memory.
+const EPOCH: &[u8] = b"e1";
+
+const WINDOW: u32 = 8;
+
+/// Runs the program on its words, and gives the status that it ends with: 0 where the console's input ended between
+/// requests or a request closed, 1 for want of memory, 2 for words outside the grammar, 4 and 5 where a read or a write
+/// of the console failed, 14 where the input ended inside a request, 15 where the console brought as many requests as a
+/// connection may.
+///
+/// The words are `pipe STORE`. STORE is read and not used yet: the book starts in memory, and ends with the run.
+pub fn run<L: Link, C: Clock>(alloc: Global, words: &[Name], console: &mut L, clock: &C) -> u8
+    ensures faulty { result ≡ 2 → ¬ (IsPipe words.now) }
+    ensures served { ¬ (IsPipe words.now) → (result ≡ 2) ⊎ (result ≡ 5) }
+    ensures reads { L.failed_reads console.new ≡ reads_at result (L.failed_reads console.old) }
+    ensures writes { L.failed_writes console.new ≡ writes_at result (L.failed_writes console.old) }
+{
+    if is_pipe(words) {
+        pipe(alloc, console, clock)
+    } else {
+        print(console, WORDS_FAULT)
+    }
+}
+
+/// Whether the words are `pipe` and one more.
+fn is_pipe(words: &[Name]) -> bool
+    ensures { IsTrue result ↔ IsPipe words.now }
+{
+    match words {
+        [command, _] => command.as_str() == PIPE,
+        _ => false,
+    }
+}
+
+/// Prints why the words aren't taken.
+fn print<L: Link>(console: &mut L, text: &[u8]) -> u8
+    ensures status { (result ≡ 2) ⊎ (result ≡ 5) }
+    ensures reads { L.failed_reads console.new ≡ reads_at result (L.failed_reads console.old) }
+    ensures writes { L.failed_writes console.new ≡ writes_at result (L.failed_writes console.old) }
+{
+    match write_all(console, text) {
+        Ok(()) => 2,
+        Err(_) => 5,
+    }
+}
+
+/// Serves the console over a book in memory.
+fn pipe<L: Link, C: Clock>(alloc: Global, console: &mut L, clock: &C) -> u8
+    ensures status { result ≢ 2 }
+    ensures reads { L.failed_reads console.new ≡ reads_at result (L.failed_reads console.old) }
+    ensures writes { L.failed_writes console.new ≡ writes_at result (L.failed_writes console.old) }
+{
+    let Ok(mut desk) = new_desk(alloc) else {
+        return 1;
+    };
+    status_of(serve_conn(alloc, &mut desk, console, clock, Side::Both))
+}
+
+/// A new book in memory.
+fn new_desk(alloc: Global) -> Result<Desk<PlainRows>, AllocError> {
+    let Ok(epoch) = Epoch::read(alloc, EPOCH) else {
+        return Err(AllocError);
+    };
+    Desk::start(alloc, epoch, WINDOW)
+}
+
+/// The status that tells how a connection ended.
+fn status_of(end: End) -> u8
+    ensures { result ≡ status_of end }
+{
+    match end {
+        End::Closed => 0,
+        End::Memory => 1,
+        End::ReadFault => 4,
+        End::WriteFault => 5,
+        End::Cut => 14,
+        End::Limit => 15,
+    }
+}
