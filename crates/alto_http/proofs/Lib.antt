@@ -1,8 +1,11 @@
 mod Ahead
 mod Answered
 mod FieldLemmas
+mod HeadEnds
 mod HeadLines
 mod Heads
 mod Links
+mod OneNext
 mod Places
 mod Ranges
+mod Refusals

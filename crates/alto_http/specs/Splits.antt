@@ -1,5 +1,6 @@
--- What the bytes of a connection begin with: a request, or why there is none (RFC 9112, section 2).
-use Rattle.std.specs.Prelude.{◌≡◌, ◌⊎◌, ℕ, ◌+◌, ◌-◌, ◌<◌, ◌≤◌, List, [], ◌++◌, length, take, drop}
+-- What the bytes of a connection begin with: a request, or why there is none; and how they split into
+-- requests, one behind another, and an end (RFC 9112, section 2).
+use Rattle.std.specs.Prelude.{◌≡◌, ◌⊎◌, ℕ, ◌+◌, ◌-◌, ◌<◌, ◌≤◌, true, false, List, [], ◌∷◌, ◌++◌, length, take, drop}
 use Rattle.alto_http.specs.declared.fault.HeadFault.{HeadFault}
 use Rattle.alto_http.specs.declared.fault.HeadFault.TheVariants.{TooLarge}
 use Rattle.alto_http.specs.Head.{breaks_before, HasNoEnd, IsHeadEnd}
@@ -51,3 +52,24 @@ EndsInside bytes =
     ⊎ ((start : ℕ) × (size : ℕ) × (request : RequestData) × (length_of_body : ℕ) × IsHeadAt bytes start size
     × Passes (take size (drop start bytes)) request length_of_body
     × (length (drop (start + size) bytes) < length_of_body))
+
+-- what the last of the bytes are: nothing but line breaks, whatever follows a request that closes, what is
+-- refused by the first check that fails, or a request that is cut
+pub data Ending : Type 0 where
+  clean closed cut : Ending
+  refused : HeadFault → Ending
+
+-- the bytes end so, without one more request
+abbrev pub Ends : List ℕ → Ending → Type 0
+Ends bytes clean = IsBlank bytes
+Ends bytes closed = ⊥
+Ends bytes cut = EndsInside bytes
+Ends bytes (refused fault) = IsRefused bytes fault
+
+-- the bytes are these requests and then this ending; nothing is read behind a request that closes
+abbrev pub Splits : List ℕ → List RequestData → Ending → Type 0
+Splits bytes [] ending = Ends bytes ending
+Splits bytes (request ∷ requests) ending =
+    (rest : List ℕ) × Begins bytes request rest
+    × (((request.close ≡ true) × (requests ≡ []) × (ending ≡ closed))
+    ⊎ ((request.close ≡ false) × Splits rest requests ending))

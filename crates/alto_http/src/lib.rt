@@ -10,6 +10,7 @@ mod fault;
 mod fields;
 mod head;
 mod intake;
+mod laws;
 mod link;
 mod mem_link;
 mod read;
@@ -22,6 +23,9 @@ mod write;
 
 pub use fault::HeadFault;
 pub use intake::Intake;
+pub use laws::{
+    head_is_read_whole, next_is_one, refusal_is_by_a_check, request_leaves_the_rest, split_is_one,
+};
 pub use link::{Failed, Link};
 pub use mem_link::MemLink;
 pub use read::read_request;

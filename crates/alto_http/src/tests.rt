@@ -63,45 +63,97 @@ fn two_requests_come_whole_in_any_pieces(rt: HostRuntime) -> Result<(), Fail> {
     Ok(())
 }
 
+/// Heads with the targets that they are read with, or the first check that fails.
+const HEADS: [(&[u8], Result<&[u8], HeadFault>); 36] = [
+    (b"PUT /maps/metro HTTP/1.1\r\n\r\n", Ok(b"/maps/metro")),
+    (b"GET /maps/%FF HTTP/1.1\r\n\r\n", Ok(b"/maps/%FF")),
+    (
+        b"GET http://alto.example/a?b HTTP/1.1\n\n",
+        Ok(b"http://alto.example/a?b"),
+    ),
+    (b"GET /maps/\xc3\xa9 HTTP/1.1\n\n", Ok(b"/maps/\xc3\xa9")),
+    (b"GET /maps\xff HTTP/1.1\r\n\r\n", Err(HeadFault::BadHead)),
+    (b"GET /\0 HTTP/1.1\n\n", Err(HeadFault::BadHead)),
+    (b"GET /a HTTP/1.1\nHost: \xff\n\n", Ok(b"/a")),
+    (b"GET /a HTTP/1.1\nHost: \0\n\n", Err(HeadFault::BadHead)),
+    (b"GET /a HTTP/1.1\nHost: a\n b\n\n", Err(HeadFault::BadHead)),
+    (b"GET /a HTTP/1.1\nHost : a\n\n", Err(HeadFault::BadHead)),
+    (b"GET /a HTTP/1.1\nHost: a\rb\n\n", Err(HeadFault::BadHead)),
+    (b"GET /maps/metro HTTP/9.9\r\n\r\n", Err(HeadFault::BadHead)),
+    (b"GET  /a HTTP/1.1\n\n", Err(HeadFault::BadHead)),
+    (b"\r\n\n\r\r\nGET /a HTTP/1.1\r\n\n", Ok(b"/a")),
+    (b"\n\r\r\nG", Err(HeadFault::Cut)),
+    (b" \nGET /a HTTP/1.1\n\n", Err(HeadFault::BadHead)),
+    (
+        b"GET /a HTTP/1.1\nTransfer-Encoding: chunked\n\n",
+        Err(HeadFault::Coded),
+    ),
+    (
+        b"POST /a HTTP/1.1\nTRANSFER-ENCODING:\nContent-Length: x\n\n",
+        Err(HeadFault::Coded),
+    ),
+    (
+        b"POST /a HTTP/1.1\nContent-Length: 1\ncontent-length: 1\n\na",
+        Err(HeadFault::BadHead),
+    ),
+    (
+        b"POST /a HTTP/1.1\nContent-Length: 4194305\nContent-Length: 4194305\n\na",
+        Err(HeadFault::BadHead),
+    ),
+    (
+        b"GET /a HTTP/1.1\nContent-Length: +1\n\na",
+        Err(HeadFault::BadHead),
+    ),
+    (
+        b"GET /a HTTP/1.1\nContent-Length: 1, 1\n\na",
+        Err(HeadFault::BadHead),
+    ),
+    (
+        b"POST /a HTTP/1.1\nContent-Length:\n\n",
+        Err(HeadFault::BadHead),
+    ),
+    (b"POST /tips HTTP/1.1\r\n\r\n", Err(HeadFault::NoLength)),
+    (b"PUT /tips HTTP/1.1\r\n\r\n", Ok(b"/tips")),
+    (b"post /tips HTTP/1.1\r\n\r\n", Ok(b"/tips")),
+    (
+        b"POST /tips HTTP/1.1\nContent-Length: 4194305\n\n",
+        Err(HeadFault::BodyTooLarge),
+    ),
+    (
+        b"POST /a HTTP/1.1\nContent-Length: 99999999999999999999\n\n",
+        Err(HeadFault::BodyTooLarge),
+    ),
+    (
+        b"GET /a HTTP/1.1\nContent-Length: 4194304\n\nabc",
+        Err(HeadFault::Cut),
+    ),
+    (
+        b"POST /a HTTP/1.1\nContent-Length: 007\n\nabcdef",
+        Err(HeadFault::Cut),
+    ),
+    (
+        b"POST /a HTTP/1.1\nContent-Length: 007\n\nabcdefg",
+        Ok(b"/a"),
+    ),
+    (b"POST /a HTTP/1.1\nContent-Length: 0\n\n", Ok(b"/a")),
+    (b"GET /a HTTP/1.1\nHost: a\n", Err(HeadFault::Cut)),
+    (b"GET /a HTTP/9.9\nHost: a\n", Err(HeadFault::Cut)),
+    (b"\r\n\r\n", Ok(b"")),
+    (b"", Ok(b"")),
+];
+
 #[test]
 fn the_first_check_that_fails_is_answered(rt: HostRuntime) -> Result<(), Fail> {
     let alloc = rt.alloc();
-    let heads: [(&[u8], HeadFault); 12] = [
-        (b"GET /maps/metro HTTP/9.9\r\n\r\n", HeadFault::BadHead),
-        (b"GET /maps\xff HTTP/1.1\r\n\r\n", HeadFault::BadHead),
-        (
-            b"POST /a HTTP/1.1\nTransfer-Encoding: chunked\nContent-Length: x\n\n",
-            HeadFault::Coded,
-        ),
-        (
-            b"POST /a HTTP/1.1\nContent-Length: 1\ncontent-length: 1\n\na",
-            HeadFault::BadHead,
-        ),
-        (
-            b"GET /a HTTP/1.1\nContent-Length: +1\n\na",
-            HeadFault::BadHead,
-        ),
-        (b"GET /a HTTP/1.1\nContent-Length:\n\n", HeadFault::BadHead),
-        (b"POST /a HTTP/1.1\n\n", HeadFault::NoLength),
-        (
-            b"GET /a HTTP/1.1\nContent-Length: 4194305\n\n",
-            HeadFault::BodyTooLarge,
-        ),
-        (
-            b"POST /a HTTP/1.1\nContent-Length: 99999999999999999999\n\n",
-            HeadFault::BodyTooLarge,
-        ),
-        (b"GET /a HTTP/1.1\nHost: a\n", HeadFault::Cut),
-        (
-            b"GET /a HTTP/1.1\nContent-Length: 4194304\n\nabc",
-            HeadFault::Cut,
-        ),
-        (b"\n\r\r\nG", HeadFault::Cut),
-    ];
-    for (head, fault) in heads {
+    for (head, expected) in HEADS {
         for size in [1, 1000] {
             let result = first_in_pieces(alloc, head, size)?;
-            assert_eq!(rt; result.err(), Some(fault), "{head:?} in pieces of {size}");
+            let read = match &result {
+                Ok(Some(request)) => Ok(request.target.as_slice()),
+                Ok(None) => Ok(b"".as_slice()),
+                Err(fault) => Err(*fault),
+            };
+            assert_eq!(rt; read, expected, "{head:?} in pieces of {size}");
         }
     }
     Ok(())
@@ -117,6 +169,17 @@ fn head_of_fields(alloc: Global, fields: usize) -> Result<Vec<u8>, AllocError> {
     Ok(head)
 }
 
+/// A head of 16 bytes and so many letters, behind so many line breaks.
+fn head_of_letters(alloc: Global, breaks: usize, letters: usize) -> Result<Vec<u8>, AllocError> {
+    let mut head = vec![in alloc; b'\n'; breaks]?;
+    head.extend_from_slice(b"GET /")?;
+    for _ in 0..letters {
+        head.push(b'a')?;
+    }
+    head.extend_from_slice(b" HTTP/1.1\n\n")?;
+    Ok(head)
+}
+
 #[test]
 fn a_head_is_too_large_by_its_bytes_or_its_lines(rt: HostRuntime) -> Result<(), Fail> {
     let alloc = rt.alloc();
@@ -126,6 +189,22 @@ fn a_head_is_too_large_by_its_bytes_or_its_lines(rt: HostRuntime) -> Result<(), 
             head_of_fields(alloc, 65)?,
             Some(HeadFault::TooLarge),
             "65 fields",
+        ),
+        (head_of_letters(alloc, 0, 16368)?, None, "an end in time"),
+        (
+            head_of_letters(alloc, 9, 16359)?,
+            None,
+            "the same behind line breaks",
+        ),
+        (
+            head_of_letters(alloc, 0, 16369)?,
+            Some(HeadFault::TooLarge),
+            "an end one byte late",
+        ),
+        (
+            head_of_letters(alloc, 9, 16360)?,
+            Some(HeadFault::TooLarge),
+            "the same behind line breaks",
         ),
         (
             vec![in alloc; b'a'; 16384]?,
@@ -167,8 +246,10 @@ fn a_connection_closes_by_its_version_or_its_fields(rt: HostRuntime) -> Result<(
         (b"GET / HTTP/1.0\nConnection: keep-alive\n\n", true),
     ];
     for (head, closes) in heads {
-        let request = first_in_pieces(alloc, head, 1000)??.ok_or("a request")?;
-        assert_eq!(rt; request.close, closes, "{head:?}");
+        for size in [1, 1000] {
+            let request = first_in_pieces(alloc, head, size)??.ok_or("a request")?;
+            assert_eq!(rt; request.close, closes, "{head:?} in pieces of {size}");
+        }
     }
     Ok(())
 }
