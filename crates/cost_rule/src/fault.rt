@@ -1,0 +1,18 @@
+use std::error::Error;
+use std::fmt;
+
+/// Why a text is no constraint.
+#[derive(Clone, Copy, Debug, PartialEq, Eq)]
+pub enum ConstraintFault {
+    /// So many bytes from its beginning could still have been continued to a constraint, and no more.
+    BadAt(usize),
+}
+
+impl fmt::Display for ConstraintFault {
+    fn fmt<W: fmt::Write>(&self, f: &mut fmt::Formatter<W>) -> fmt::Result {
+        let ConstraintFault::BadAt(place) = self;
+        write!(f, "no constraint, from place {place} on")
+    }
+}
+
+impl Error for ConstraintFault {}
