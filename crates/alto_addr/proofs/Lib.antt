@@ -1,0 +1,13 @@
+pub mod Compressed
+pub mod Grammar
+pub mod Languages
+pub mod NoAddr
+pub mod Plain
+pub mod PrefixFaults
+pub mod Prefixes
+pub mod Sequences
+pub mod Steps
+pub mod TokenTests
+pub mod Tokens
+pub mod Whole
+pub mod Written

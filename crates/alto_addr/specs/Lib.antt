@@ -1,0 +1,7 @@
+pub mod Bits
+pub mod Faults
+pub mod Fronts
+pub mod Languages
+pub mod Place
+pub mod Text
+pub mod Tokens

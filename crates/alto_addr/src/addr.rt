@@ -1,0 +1,97 @@
+ghost use Rattle.std.specs.Prelude.{◌≡◌, ◌+◌, ◌*◌, ◌/◌, ◌%◌, ◌<◌, ◌^◌, IfOk, string_bytes};
+ghost use Rattle.alto_addr.specs.Text.{number_after, octets_of, groups_of, addr_text};
+ghost use Rattle.std.specs.Net.Addr.{ipv4_octets, ipv6_segments};
+
+use std::alloc::{AllocError, Global};
+use std::net::{Ipv4Addr, Ipv6Addr};
+
+/// An address: its family, and its bits as a number, the first bit being the highest.
+/// Addresses are ordered by family, IPv4 first, and then by number.
+#[derive(Clone, Copy, Debug, PartialEq, Eq, PartialOrd, Ord, Hash)]
+pub enum Addr {
+    /// An address of IPv4: 32 bits.
+    V4(u32),
+    /// An address of IPv6: 128 bits.
+    V6(u128),
+}
+
+/// A number of 256 above these octets.
+pub(crate) fn from_octets(ip: Ipv4Addr) -> u32
+    ensures { result ≡ number_after 256 0 (ipv4_octets ip) }
+{
+    let [a, b, c, d] = ip.octets();
+    ((u32::from(a) * 256 + u32::from(b)) * 256 + u32::from(c)) * 256 + u32::from(d)
+}
+
+fn joined(high: u128, low: u16) -> u128
+    requires { high < 2 ^ 112 }
+    ensures { result ≡ high * 65536 + low }
+{
+    high * 65536 + u128::from(low)
+}
+
+/// The number that the groups of an address write.
+pub(crate) fn from_groups(ip: Ipv6Addr) -> u128
+    ensures { result ≡ number_after 65536 0 (ipv6_segments ip) }
+{
+    let [a, b, c, d, e, f, g, h] = ip.segments();
+    let four = joined(joined(joined(u128::from(a), b), c), d);
+    joined(joined(joined(joined(four, e), f), g), h)
+}
+
+fn octet(number: u32, shift: u32) -> u8
+    requires { shift < 32 }
+    ensures { result ≡ number / 2 ^ shift % 256 }
+{
+    (number >> shift & 0xff) as u8
+}
+
+fn group(number: u128, shift: u32) -> u16
+    requires { shift < 128 }
+    ensures { result ≡ number / 2 ^ shift % 65536 }
+{
+    (number >> shift & 0xffff) as u16
+}
+
+fn dotted(number: u32) -> Ipv4Addr
+    ensures { ipv4_octets result ≡ octets_of number }
+{
+    Ipv4Addr::new(
+        octet(number, 24),
+        octet(number, 16),
+        octet(number, 8),
+        octet(number, 0),
+    )
+}
+
+fn colon_hex(number: u128) -> Ipv6Addr
+    ensures { ipv6_segments result ≡ groups_of number }
+{
+    Ipv6Addr::new(
+        group(number, 112),
+        group(number, 96),
+        group(number, 80),
+        group(number, 64),
+        group(number, 48),
+        group(number, 32),
+        group(number, 16),
+        group(number, 0),
+    )
+}
+
+/// Writes an address in its one form (RFC 5952): lower case, no leading zeros, and the longest run of two or more zero
+/// groups as `::`, the first on a tie. No part of an IPv6 address is written with dots.
+pub fn print_addr(alloc: Global, addr: &Addr) -> Result<String, AllocError>
+    ensures { IfOk result (λ text. string_bytes text ≡ addr_text addr.now) }
+{
+    match *addr {
+        Addr::V4(number) => {
+            let ip = dotted(number);
+            format!(in alloc; "{ip}")
+        }
+        Addr::V6(number) => {
+            let ip = colon_hex(number).hex_groups();
+            format!(in alloc; "{ip}")
+        }
+    }
+}

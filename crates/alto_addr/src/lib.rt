@@ -1,0 +1,25 @@
+//! Addresses and prefixes of IPv4 and IPv6 (RFC 4291): read from text, written in one form each (RFC 5952), and compared bit by bit.
+#![tactic(auto)]
+
+mod addr;
+mod bits;
+mod fault;
+mod front;
+mod laws;
+mod prefix;
+mod reading;
+mod token;
+
+pub use addr::{Addr, print_addr};
+pub use fault::AddrFault;
+pub use laws::{
+    address_reads_as_written, longest_run_is_elided, prefix_reads_as_written,
+    text_writes_one_address,
+};
+pub use prefix::{Prefix, holds, inside, print_prefix};
+pub use reading::{read_addr, read_prefix};
+
+#[cfg(test)]
+mod tests;
+#[cfg(test)]
+mod texts;
