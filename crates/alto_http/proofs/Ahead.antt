@@ -1,5 +1,5 @@
 -- Reading ahead, piece by piece.
-use Rattle.std.proofs.Common.{◌≡◌, ℕ, ◌+◌, ◌<◌, ◌≤◌, List, [], ◌++◌, length, take, drop, min, slice_range, Option, ap, sym, ◌∙◌, append_assoc, append-nil, arith}
+use Rattle.std.proofs.Common.{◌≡◌, ℕ, ◌+◌, ◌<◌, ◌≤◌, List, [], ◌++◌, length, take, drop, min, slice_range, Option, ap, sym, ◌∙◌, append_assoc, append-nil, length-append, arith}
 use Rattle.std.proofs.lemmas.List.{drop_all, take-append-drop}
 use Rattle.alto_http.specs.Link.{followed_by}
 use Rattle.alto_http.specs.Intake.{ReadsAhead, KeepsWhole}
@@ -46,6 +46,11 @@ body_cut ahead into taken left left' n count short given =
     let none : drop n ahead ≡ [] = drop_all n ahead (omega arith) in
     ap (followed_by ahead) given ∙ followed_by-followed_by ahead taken left'
     ∙ ap (λ xs. followed_by xs left') (sym (ap (λ xs. (ahead ++ taken) ++ xs) none ∙ append-nil (ahead ++ taken)))
+
+-- what was handed over and what then came are too short together
+pub joined_short : (ahead taken into : List ℕ) (n : ℕ) → n ≡ min (length ahead) (length into) → n + length taken < length into
+    → length (ahead ++ taken) < length into
+joined_short ahead taken into n count short = simp length-append (omega arith)
 
 -- bytes were read ahead, and none taken
 pub whole_same : (a b : List ℕ) (l m : Option (List ℕ)) → ReadsAhead a l b m → KeepsWhole a l b m

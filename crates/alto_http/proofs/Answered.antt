@@ -4,7 +4,9 @@ use Rattle.alto_http.specs.declared.fault.HeadFault.{HeadFault}
 use Rattle.alto_http.specs.declared.fault.HeadFault.TheVariants.{TooLarge}
 use Rattle.alto_http.specs.Link.{followed_by}
 use Rattle.alto_http.specs.Request.{RequestData, Passes, FailsBy}
-use Rattle.alto_http.specs.Splits.{IsHeadAt, IsTooLong, IsRefused, Begins, EndsInside}
+use Rattle.alto_http.specs.Intake.{GivesBehind, GivesOnly}
+use Rattle.alto_http.specs.Splits.{IsHeadAt, IsTooLong, IsRefused, IsUnfinished, Begins, EndsInside}
+use Rattle.alto_http.proofs.Links.{followed_by-followed_by}
 use Rattle.alto_http.proofs.Places.{head_at_some, head_at_append, head_bytes_append, behind_head_append, too_long_append}
 
 pub refused_long : (whole : Option (List ℕ)) (ahead : List ℕ) (left : Option (List ℕ)) (fault : HeadFault)
@@ -66,3 +68,16 @@ begins_with whole ahead (Some left) ahead' (Some left') start size bare request 
         body = behind_head_append ahead left start size at ∙ behind ∙ append_assoc body ahead' left';
       },
     )
+
+-- a body that didn't come whole leaves the bytes that came unfinished
+pub unfinished_body : (first : List ℕ) (old : Option (List ℕ)) (ahead : List ℕ) (left : Option (List ℕ)) (left' : Option (List ℕ))
+    (start size : ℕ) (request : RequestData) (long : ℕ)
+    → followed_by first old ≡ followed_by ahead left → IsHeadAt ahead start size → Passes (take size (drop start ahead)) request long
+    → GivesBehind (λ given. length given < long) (drop (start + size) ahead) left left'
+    → GivesOnly IsUnfinished first old left'
+unfinished_body first old ahead left left' start size request long is at passes (given, came, short) = (
+  ahead ++ came.piece,
+  is ∙ ap (followed_by ahead) came.given ∙ followed_by-followed_by ahead came.piece left',
+  inr (cut_in_body (Some (ahead ++ came.piece)) ahead (Some came.piece) start size request long refl at passes
+  (let P : List ℕ → Type 0 = λ bytes. length bytes < long in subst P came.behind short)),
+)

@@ -1,6 +1,7 @@
 mod Ahead
 mod Answered
 mod FieldLemmas
+pub mod Fronts
 mod HeadEnds
 mod HeadLines
 mod Heads

@@ -14,6 +14,14 @@ pub record ReadsAhead (ahead : List ℕ) (left : Option (List ℕ)) (ahead' : Li
 abbrev pub KeepsWhole : List ℕ → Option (List ℕ) → List ℕ → Option (List ℕ) → Type 0
 KeepsWhole ahead left ahead' left' = (taken : List ℕ) × (followed_by ahead left ≡ followed_by (taken ++ ahead') left')
 
+-- what was ahead and what the link gave are these bytes, of which this holds
+abbrev pub GivesOnly : (List ℕ → Type 0) → List ℕ → Option (List ℕ) → Option (List ℕ) → Type 0
+GivesOnly P ahead left left' = (given : List ℕ) × (followed_by ahead left ≡ followed_by given left') × P given
+
+-- the same, where the bytes that were ahead stand first
+abbrev pub GivesBehind : (List ℕ → Type 0) → List ℕ → Option (List ℕ) → Option (List ℕ) → Type 0
+GivesBehind P ahead left left' = (given : List ℕ) × ReadsAhead ahead left given left' × P given
+
 -- the count of failed reads after a call: one more where it answers a fault of a read
 abbrev pub reads_after : {T : Type 0} → Result T HeadFault → ℕ → ℕ
 reads_after (Ok value) n = n

@@ -34,6 +34,11 @@ abbrev pub BeginIsWhole : Type 0
 BeginIsWhole = (bytes : List ℕ) (request : RequestData) (rest : List ℕ)
     → Begins bytes request rest → (head : List ℕ) × (bytes ≡ head ++ request.body ++ rest)
 
+-- a request that bytes begin with stands whole in the bytes before what is cut off behind it
+abbrev pub BeginNeedsNoMore : Type 0
+BeginNeedsNoMore = (bytes : List ℕ) (request : RequestData) (rest more : List ℕ)
+    → Begins bytes request (rest ++ more) → (front : List ℕ) × (bytes ≡ front ++ more) × Begins front request rest
+
 -- a refusal has the fault of a check: it is no cut, no failed read and no want of memory
 abbrev pub RefusalIsByACheck : Type 0
 RefusalIsByACheck = (bytes : List ℕ) (fault : HeadFault)

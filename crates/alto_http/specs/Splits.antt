@@ -53,6 +53,10 @@ EndsInside bytes =
     × Passes (take size (drop start bytes)) request length_of_body
     × (length (drop (start + size) bytes) < length_of_body))
 
+-- the bytes hold no whole request, and more may make one: line breaks alone, or a request that has begun
+abbrev pub IsUnfinished : List ℕ → Type 0
+IsUnfinished bytes = IsBlank bytes ⊎ EndsInside bytes
+
 -- what the last of the bytes are: nothing but line breaks, whatever follows a request that closes, what is
 -- refused by the first check that fails, or a request that is cut
 pub data Ending : Type 0 where

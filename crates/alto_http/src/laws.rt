@@ -1,5 +1,5 @@
 //! What holds of the bytes of every connection. Each law is the contract of a function that does nothing.
-ghost use Rattle.alto_http.specs.Laws.{BeginIsOne, BeginIsNoEnd, EndIsOne, SplitIsOne, HeadIsReadWhole, BeginIsWhole, RefusalIsByACheck};
+ghost use Rattle.alto_http.specs.Laws.{BeginIsOne, BeginIsNoEnd, EndIsOne, SplitIsOne, HeadIsReadWhole, BeginIsWhole, BeginNeedsNoMore, RefusalIsByACheck};
 
 /// What the bytes begin with is one request with one rest, or one end, and never both.
 pub fn next_is_one()
@@ -22,6 +22,11 @@ pub fn head_is_read_whole()
 /// A request takes its head and its body from the front, and leaves all that stands behind them.
 pub fn request_leaves_the_rest()
     ensures { BeginIsWhole }
+{}
+
+/// A request is there whole as soon as its own bytes are, whatever would follow them.
+pub fn request_needs_no_more()
+    ensures { BeginNeedsNoMore }
 {}
 
 /// What is refused, is refused by one of the checks.

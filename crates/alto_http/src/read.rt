@@ -1,7 +1,7 @@
 ghost use Rattle.std.specs.Prelude.{◌≡◌, ◌≢◌, ◌++◌, ℕ, List, IfOk, IfErr, IfSome, IsErrOf, OnErr, ◌⊎◌, Some};
-ghost use Rattle.alto_http.specs.Intake.{KeepsWhole, reads_after};
+ghost use Rattle.alto_http.specs.Intake.{GivesOnly, KeepsWhole, reads_after};
 ghost use Rattle.alto_http.specs.Link.{followed_by, IsAtEnd};
-ghost use Rattle.alto_http.specs.Splits.{Begins, IsBlank, IsRefused, EndsInside};
+ghost use Rattle.alto_http.specs.Splits.{Begins, IsBlank, IsRefused, IsUnfinished, EndsInside};
 
 use crate::fault::HeadFault;
 use crate::head::read_head;
@@ -26,6 +26,7 @@ pub fn read_request<L: Link>(
     ensures refused { IfErr result (λ e. (e ≢ HeadFault.Cut) → (e ≢ HeadFault.ReadFault) → (e ≢ HeadFault.Memory)
         → IfSome (followed_by intake.old (L.left link.old)) (λ bytes. IsRefused bytes e)) }
     ensures cut { IsErrOf result HeadFault.Cut → IfSome (followed_by intake.old (L.left link.old)) EndsInside }
+    ensures unfinished { IsErrOf result HeadFault.ReadFault → GivesOnly IsUnfinished intake.old (L.left link.old) (L.left link.new) }
 
     // Bytes are taken from the front, and none are lost.
     ensures whole { KeepsWhole intake.old (L.left link.old) intake.new (L.left link.new) }

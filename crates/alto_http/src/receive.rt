@@ -1,9 +1,9 @@
 //! Reads until a head, or a body, is there whole.
 ghost use Rattle.std.specs.Prelude.{◌≡◌, ◌<◌, ◌≤◌, ◌⊎◌, ◌+◌, ℕ, length, take, drop, List, ◌++◌, MatchOption, IfOk, IfErr, IsErrOf, OnOk, OnErr, IfSome};
 ghost use Rattle.alto_http.specs.Head.{breaks_before, HasNoEnd, IsHeadEnd};
-ghost use Rattle.alto_http.specs.Intake.{KeepsWhole, ReadsAhead, reads_after};
+ghost use Rattle.alto_http.specs.Intake.{KeepsWhole, ReadsAhead, GivesBehind, reads_after};
 ghost use Rattle.alto_http.specs.Link.{followed_by, IsAtEnd};
-ghost use Rattle.alto_http.specs.Splits.{IsHeadAt, IsBlank, IsTooLong, EndsInHead};
+ghost use Rattle.alto_http.specs.Splits.{IsHeadAt, IsBlank, IsTooLong, EndsInHead, IsUnfinished};
 
 use crate::fault::HeadFault;
 use crate::intake::{HEAD_BYTES, Intake};
@@ -20,6 +20,7 @@ fn find_start<L: Link>(intake: &mut Intake, link: &mut L) -> Result<Option<usize
         × (length intake.new < HEAD_BYTES) × IsAtEnd (L.left link.new)) }
     ensures too_large { IsErrOf result HeadFault.TooLarge →
         (breaks_before intake.new ≡ length intake.new) × (length intake.new ≡ HEAD_BYTES) }
+    ensures blank { IsErrOf result HeadFault.ReadFault → IsBlank intake.new }
     ensures causes { IfErr result (λ e. (e ≡ HeadFault.TooLarge) ⊎ (e ≡ HeadFault.ReadFault)) }
 
     ensures counted { L.failed_reads link.new ≡ reads_after result (L.failed_reads link.old) }
@@ -52,6 +53,8 @@ fn find_end<L: Link>(intake: &mut Intake, link: &mut L, start: usize) -> Result<
         × (length intake.new ≡ HEAD_BYTES) }
     ensures cut { IsErrOf result HeadFault.Cut → HasNoEnd (length (drop start intake.new)) (drop start intake.new)
         × (length intake.new < HEAD_BYTES) × IsAtEnd (L.left link.new) }
+    ensures unended { IsErrOf result HeadFault.ReadFault → HasNoEnd (length (drop start intake.new)) (drop start intake.new)
+        × (length intake.new < HEAD_BYTES) }
     ensures causes { IfErr result (λ e. (e ≡ HeadFault.TooLarge) ⊎ (e ≡ HeadFault.Cut) ⊎ (e ≡ HeadFault.ReadFault)) }
 
     ensures counted { L.failed_reads link.new ≡ reads_after result (L.failed_reads link.old) }
@@ -85,6 +88,7 @@ pub(crate) fn find_head<L: Link>(
     ensures none { IfOk result (λ r. r ≡ None → IsBlank intake.new × IsAtEnd (L.left link.new)) }
     ensures too_large { IsErrOf result HeadFault.TooLarge → IsTooLong intake.new }
     ensures cut { IsErrOf result HeadFault.Cut → EndsInHead intake.new × IsAtEnd (L.left link.new) }
+    ensures unfinished { IsErrOf result HeadFault.ReadFault → IsUnfinished intake.new }
     ensures causes { IfErr result (λ e. (e ≡ HeadFault.TooLarge) ⊎ (e ≡ HeadFault.Cut) ⊎ (e ≡ HeadFault.ReadFault)) }
 
     ensures counted { L.failed_reads link.new ≡ reads_after result (L.failed_reads link.old) }
@@ -132,6 +136,7 @@ fn fill_body<L: Link>(intake: &mut Intake, link: &mut L, into: &mut [u8]) -> Res
     ensures err { OnErr result (KeepsWhole intake.old (L.left link.old) intake.new (L.left link.new)) }
     ensures cut { IsErrOf result HeadFault.Cut → IsAtEnd (L.left link.new)
         × IfSome (followed_by intake.old (L.left link.old)) (λ bytes. length bytes < length into.new) }
+    ensures short { OnErr result (GivesBehind (λ given. length given < length into.new) intake.old (L.left link.old) (L.left link.new)) }
     ensures causes { IfErr result (λ e. (e ≡ HeadFault.Cut) ⊎ (e ≡ HeadFault.ReadFault)) }
 
     ensures counted { L.failed_reads link.new ≡ reads_after result (L.failed_reads link.old) }
@@ -155,6 +160,8 @@ pub(crate) fn take_body<L: Link>(
     ensures err { OnErr result (KeepsWhole intake.old (L.left link.old) intake.new (L.left link.new)) }
     ensures cut { IsErrOf result HeadFault.Cut → IsAtEnd (L.left link.new)
         × IfSome (followed_by intake.old (L.left link.old)) (λ bytes. length bytes < size) }
+    ensures short { IsErrOf result HeadFault.ReadFault
+        → GivesBehind (λ given. length given < size) intake.old (L.left link.old) (L.left link.new) }
     ensures causes { IfErr result (λ e. (e ≡ HeadFault.Cut) ⊎ (e ≡ HeadFault.ReadFault) ⊎ (e ≡ HeadFault.Memory)) }
 
     ensures counted { L.failed_reads link.new ≡ reads_after result (L.failed_reads link.old) }

@@ -2,7 +2,7 @@ use Rattle.std.proofs.Common.{◌≡◌, ℕ, List, take, drop, subst, ap, ◌�
 use Rattle.alto_http.specs.declared.fault.HeadFault.TheVariants.{TooLarge}
 use Rattle.alto_http.specs.Request.{Passes, FailsBy}
 use Rattle.alto_http.proofs.Ahead.{ahead_whole, whole_same, whole_taken}
-use Rattle.alto_http.proofs.Answered.{refused_long, refused_head, cut_in_body, begins_with}
+use Rattle.alto_http.proofs.Answered.{refused_long, refused_head, cut_in_body, begins_with, unfinished_body}
 use Rattle.alto_http.proofs.read.read_request.Goals as goal
 
 pub returns-in-Err-clause-refused : goal.returns-in-Err-clause-refused
@@ -55,3 +55,19 @@ returns-in-Err-take_body-clause-cut g c is =
 pub returns-in-Err-take_body-clause-whole : goal.returns-in-Err-take_body-clause-whole
 returns-in-Err-take_body-clause-whole g c =
     whole_taken _ _ _ _ _ _ _ c.find_head.ensures.ahead (rw c.consume.ensures at c.in-Err-take_body.ensures.err)
+
+pub returns-in-Err-clause-unfinished : goal.returns-in-Err-clause-unfinished
+returns-in-Err-clause-unfinished g c is =
+    (_, ahead_whole _ _ _ _ c.find_head.ensures.ahead, c.in-Err.ensures.unfinished (cc))
+
+pub returns-in-Err-take_body-clause-unfinished : goal.returns-in-Err-take_body-clause-unfinished
+returns-in-Err-take_body-clause-unfinished g c is =
+    let place = c.in-Ok-Some.place in
+    let read = c.in-Ok.read in
+    let at = rw c.in-Ok-Some.field-0-is at c.in-Ok-Some.ensures.found in
+    let here : c.part-head.result.now ≡ take place.1 (drop place.0 c.find_head.new.intake) =
+    c.part-head.ensures ∙ ap (λ xs. take place.1 (drop place.0 xs)) c.bytes.ensures.bytes in
+    let P : List ℕ → Type 0 = λ head. Passes head read.0 read.1 in
+    unfinished_body _ _ _ _ _ place.0 place.1 read.0 read.1
+    (ahead_whole _ _ _ _ c.find_head.ensures.ahead) at (subst P here c.in-Ok.ensures.ok)
+    (rw c.consume.ensures at (c.in-Err-take_body.ensures.short (cc)))

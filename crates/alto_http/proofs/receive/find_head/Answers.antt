@@ -1,4 +1,4 @@
-use Rattle.std.proofs.Common.{sym}
+use Rattle.std.proofs.Common.{sym, inl, inr}
 use Rattle.alto_http.proofs.Places.{breaks_now, too_long, ends_in_head}
 use Rattle.alto_http.proofs.receive.find_head.Goals as goal
 
@@ -21,3 +21,10 @@ returns-in-Ok-clause-found g c =
     let found = rw c.in-Some.is at c.in_ok-start.ensures.found in
     let now = breaks_now _ _ _ _ _ found.0 found.1 c.find_end.ensures.ahead in
     record { behind_breaks = sym now.0; ends = c.in-Ok.ensures.found; within = c.in-Ok.ensures.room }
+
+pub returns-in-Err-clause-unfinished : goal.returns-in-Err-clause-unfinished
+returns-in-Err-clause-unfinished g c is =
+    let found = rw c.in-Some.is at c.in_ok-start.ensures.found in
+    let now = breaks_now _ _ _ _ _ found.0 found.1 c.find_end.ensures.ahead in
+    let end = c.in-Err.ensures.unended (cc) in
+    inr (inl (ends_in_head _ _ now.0 now.1 end.1 end.0))
