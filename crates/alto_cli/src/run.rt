@@ -1,10 +1,13 @@
-ghost use Rattle.std.specs.Prelude.{◌≡◌, ◌≢◌, ◌⊎◌, ◌↔◌, IsTrue};
+ghost use Rattle.std.specs.Prelude.{◌≡◌, ◌≢◌, ◌↔◌, IsTrue, IfOk, IfSome, codes};
+ghost use Rattle.alto_book.specs.Book.{opening_book};
+ghost use Rattle.alto_serve.specs.Connections.{Writes};
+ghost use Rattle.alto_cli.specs.Runs.{Pipes, SaysWords, words_fault};
 ghost use Rattle.alto_cli.specs.Words.{IsPipe};
 ghost use Rattle.alto_cli.specs.Status.{reads_at, writes_at, status_of};
 
 use alto_desk::Desk;
 use alto_http::{Link, write_all};
-use alto_names::Epoch;
+use alto_names::{Epoch, NameFault};
 use alto_rows::PlainRows;
 use alto_serve::{Clock, End, Side, serve_conn};
 use json_tree::Name;
@@ -29,14 +32,19 @@ const WINDOW: u32 = 8;
 /// The words are `pipe STORE`. STORE is read and not used yet: the book starts in memory, and ends with the run.
 pub fn run<L: Link, C: Clock>(alloc: Global, words: &[Name], console: &mut L, clock: &C) -> u8
     ensures faulty { result ≡ 2 → ¬ (IsPipe words.now) }
-    ensures served { ¬ (IsPipe words.now) → (result ≡ 2) ⊎ (result ≡ 5) }
+    ensures said { ¬ (IsPipe words.now) → Writes (SaysWords result) (L.out console.old) (L.out console.new) }
+
+    // Where the console tells its bytes, the status and the output are those of serving it from a new book.
+    ensures served { IsPipe words.now → IfSome (L.left console.old) (λ bytes. Writes
+        (Pipes result (C.tells clock.now) bytes (L.left console.new)) (L.out console.old) (L.out console.new)) }
+
     ensures reads { L.failed_reads console.new ≡ reads_at result (L.failed_reads console.old) }
     ensures writes { L.failed_writes console.new ≡ writes_at result (L.failed_writes console.old) }
 {
     if is_pipe(words) {
         pipe(alloc, console, clock)
     } else {
-        print(console, WORDS_FAULT)
+        print_words_fault(console)
     }
 }
 
@@ -51,12 +59,12 @@ fn is_pipe(words: &[Name]) -> bool
 }
 
 /// Prints why the words aren't taken.
-fn print<L: Link>(console: &mut L, text: &[u8]) -> u8
-    ensures status { (result ≡ 2) ⊎ (result ≡ 5) }
+fn print_words_fault<L: Link>(console: &mut L) -> u8
+    ensures said { Writes (SaysWords result) (L.out console.old) (L.out console.new) }
     ensures reads { L.failed_reads console.new ≡ reads_at result (L.failed_reads console.old) }
     ensures writes { L.failed_writes console.new ≡ writes_at result (L.failed_writes console.old) }
 {
-    match write_all(console, text) {
+    match write_all(console, WORDS_FAULT) {
         Ok(()) => 2,
         Err(_) => 5,
     }
@@ -65,6 +73,8 @@ fn print<L: Link>(console: &mut L, text: &[u8]) -> u8
 /// Serves the console over a book in memory.
 fn pipe<L: Link, C: Clock>(alloc: Global, console: &mut L, clock: &C) -> u8
     ensures status { result ≢ 2 }
+    ensures served { IfSome (L.left console.old) (λ bytes. Writes
+        (Pipes result (C.tells clock.now) bytes (L.left console.new)) (L.out console.old) (L.out console.new)) }
     ensures reads { L.failed_reads console.new ≡ reads_at result (L.failed_reads console.old) }
     ensures writes { L.failed_writes console.new ≡ writes_at result (L.failed_writes console.old) }
 {
@@ -75,11 +85,14 @@ fn pipe<L: Link, C: Clock>(alloc: Global, console: &mut L, clock: &C) -> u8
 }
 
 /// A new book in memory.
-fn new_desk(alloc: Global) -> Result<Desk<PlainRows>, AllocError> {
-    let Ok(epoch) = Epoch::read(alloc, EPOCH) else {
-        return Err(AllocError);
-    };
-    Desk::start(alloc, epoch, WINDOW)
+fn new_desk(alloc: Global) -> Result<Desk<PlainRows>, AllocError>
+    ensures { IfOk result (λ desk. desk ≡ opening_book (codes "e1") 8) }
+{
+    match Epoch::read(alloc, EPOCH) {
+        Ok(epoch) => Desk::start(alloc, epoch, WINDOW),
+        Err(NameFault::Memory) => Err(AllocError),
+        Err(_) => unreachable!(),
+    }
 }
 
 /// The status that tells how a connection ended.

@@ -16,6 +16,10 @@ impl<'a, R: rt::Clock> SystemClock<'a, R> {
 }
 
 impl<R: rt::Clock> Clock for SystemClock<'_, R> {
+    ghost use Rattle.std.specs.Prelude.{None};
+
+    ghost tells = { λ _. None };
+
     /// The seconds since 1970, and 0 where the clock can't be read.
     fn now(&self) -> u64 {
         let Ok(now) = SystemTime::now(self.rt) else {

@@ -1,1 +1,3 @@
+pub mod ConnectionLemmas
+pub mod StepLemmas
 pub mod TurnLemmas

@@ -1,5 +1,5 @@
 -- What a request's turn makes of the book, and which replies have bytes.
-use Rattle.std.proofs.Common.{◌≡◌, ◌≢◌, ℕ, Result, Ok, Err, refl, sym, ◌∙◌, ap, inl, inr}
+use Rattle.std.proofs.Common.{◌≡◌, ◌≢◌, ℕ, Option, Some, None, Result, Ok, Err, OnErr, refl, sym, ◌∙◌, ap, inl, inr}
 use Rattle.alto_rows.specs.Rows.{Rows}
 use Rattle.alto_book.specs.Acceptance.{accept}
 use Rattle.alto_book.specs.Book.{Book, Extends, rows_of}
@@ -12,8 +12,10 @@ use Rattle.alto_serve.specs.declared.outcome.Answer.{Answer}
 use Rattle.alto_serve.specs.declared.outcome.Answer.TheVariants as answer
 use Rattle.alto_serve.specs.declared.route.Side.{Side}
 use Rattle.alto_serve.specs.Answers.{answer_to}
+use Rattle.alto_http.specs.Request.{RequestData}
+use Rattle.alto_serve.specs.Replies.{edit_reply}
 use Rattle.alto_serve.specs.Reply.{ReplyData}
-use Rattle.alto_serve.specs.Turns.{turn_of, TakesTurn, HasEffectOrNone, IsTold}
+use Rattle.alto_serve.specs.Turns.{IsMoment, turn_of, turn, TakesTurn, HasEffectOrNone, IsTold}
 
 -- an import that is refused leaves the book, and is told why
 pub told_refused : (book : Book) (import : Import) (moment : ℕ) (why : EditFault) (later : Book)
@@ -25,3 +27,32 @@ told_refused book import moment why later answered stayed =
 pub told_extends : (book : Book) (import : Import) (moment : ℕ) (r : Result Receipt EditFault) (later : Book)
     → IsTold book import moment r later → Extends later book
 told_extends book import moment r later h = rw h.became (accept_extends book import moment)
+
+-- a clock has some moment to tell
+some_moment : (time : Option ℕ) → (moment : ℕ) × IsMoment time moment
+some_moment None = (0, tt)
+some_moment (Some n) = (n, refl)
+
+-- a request that is replied to leaves the book, whatever the moment
+pub turn_replied : (time : Option ℕ) (request : RequestData) (side : Side) (book : Book) (reply : ReplyData)
+    → answer.Reply reply ≡ answer_to request (rows_of book) side → TakesTurn time request side book reply book
+turn_replied time request side book reply is =
+    let when = some_moment time in
+    record { moment = when.0; timely = when.1; replied = rw (← is) refl; became = rw (← is) refl }
+
+-- a request that brings an import is told what becomes of it
+pub turn_told : (time : Option ℕ) (request : RequestData) (side : Side) (book : Book) (import : Import) (moment : ℕ)
+    (told : Result Receipt EditFault) (later : Book)
+    → answer.Edit import ≡ answer_to request (rows_of book) side → IsMoment time moment → IsTold book import moment told later
+    → TakesTurn time request side book (edit_reply told) later
+turn_told time request side book import moment told later is timely h = record {
+  moment = moment;
+  timely = timely;
+  replied = rw (← is) (ap edit_reply (sym h.answered));
+  became = h.became ∙ rw (← is) refl;
+}
+
+-- what holds anyhow holds after an error
+pub on_err_anyhow : {T E P : Type 0} (r : Result T E) → P → OnErr r P
+on_err_anyhow (Ok x) p = tt
+on_err_anyhow (Err e) p = p

@@ -4,3 +4,5 @@ pub mod Routes
 pub mod Replies
 pub mod Answers
 pub mod Turns
+pub mod Connections
+pub mod Steps

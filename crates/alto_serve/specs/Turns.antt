@@ -1,5 +1,5 @@
 -- What a request is told, and what becomes of the book.
-use Rattle.std.specs.Prelude.{◌≡◌, ◌⊎◌, ℕ, Option, Some, None, Result}
+use Rattle.std.specs.Prelude.{◌≡◌, ◌⊎◌, ℕ, Option, Some, None, IfSome, Result}
 use Rattle.alto_book.specs.Acceptance.{accept}
 use Rattle.alto_book.specs.Book.{Book, rows_of}
 use Rattle.alto_book.specs.Import.{Import}
@@ -36,16 +36,21 @@ pub record IsTold (before : Book) (import : Import) (moment : ℕ) (told : Resul
   pub answered : (accept before import moment).answer ≡ told
   pub became : later ≡ (accept before import moment).book
 
--- a request has its turn at some moment
-pub record TakesTurn (request : RequestData) (side : Side) (before : Book) (reply : ReplyData) (later : Book) : Type 0 where
+-- a moment of a clock, which always tells this number where it promises one
+abbrev pub IsMoment : Option ℕ → ℕ → Type 0
+IsMoment time moment = IfSome time (λ n. moment ≡ n)
+
+-- a request has its turn at some moment of the clock
+pub record TakesTurn (time : Option ℕ) (request : RequestData) (side : Side) (before : Book) (reply : ReplyData) (later : Book) : Type 0 where
   pub moment : ℕ
+  pub timely : IsMoment time moment
   pub replied : reply ≡ (turn request side before moment).reply
   pub became : later ≡ (turn request side before moment).book
 
 -- a request that isn't answered, for want of memory, leaves the book or has its effect whole
-pub record HasEffectOrNone (request : RequestData) (side : Side) (before later : Book) : Type 0 where
-  pub moment : ℕ
-  pub whole : (later ≡ before) ⊎ (later ≡ (turn request side before moment).book)
+abbrev pub HasEffectOrNone : Option ℕ → RequestData → Side → Book → Book → Type 0
+HasEffectOrNone time request side before later =
+    (later ≡ before) ⊎ ((reply : ReplyData) × TakesTurn time request side before reply later)
 
 -- the count of failed reads when a connection has ended: one more where a read's fault ended it
 abbrev pub reads_at : End → ℕ → ℕ

@@ -1,8 +1,9 @@
-ghost use Rattle.std.specs.Prelude.{◌≡◌, ◌⊎◌, ℕ, true, Err, IfOk, IfSome};
+ghost use Rattle.std.specs.Prelude.{◌≡◌, ℕ, true, Err, IfOk};
 ghost use Rattle.alto_http.specs.Intake.{reads_after};
-ghost use Rattle.alto_http.specs.Link.{extended};
-ghost use Rattle.alto_serve.specs.Replies.{head_status, status_alone};
-ghost use Rattle.alto_serve.specs.Reply.{IsReply, bytes_of, memory_reply};
+ghost use Rattle.alto_serve.specs.Connections.{Writes};
+ghost use Rattle.alto_serve.specs.Replies.{status_alone};
+ghost use Rattle.alto_serve.specs.Reply.{IsReply, bytes_of};
+ghost use Rattle.alto_serve.specs.Steps.{Refuses, RefusesWith, WantsMemory};
 ghost use Rattle.alto_serve.specs.Turns.{reads_at, writes_at};
 
 use crate::end::End;
@@ -17,12 +18,11 @@ const MEMORY_REPLY: &[u8] =
 
 /// Answers bytes that brought no request, and ends the connection: its end is a read's fault exactly where that is why.
 pub(crate) fn refuse<L: Link>(alloc: Global, link: &mut L, fault: HeadFault) -> End
-    // The bytes of its status are out, where it has one and they could be written.
-    ensures told { IfSome (head_status fault) (λ status. result ≡ End.Closed
-        → L.out link.new ≡ extended (L.out link.old) (bytes_of (status_alone status) true)) }
+    ensures told { Writes (Refuses result fault) (L.out link.old) (L.out link.new) }
     ensures why { (n : ℕ) → reads_at result n ≡ reads_after {T = ℕ} (Err fault) n }
     ensures writes { L.failed_writes link.new ≡ writes_at result (L.failed_writes link.old) }
     ensures reads { L.failed_reads link.new ≡ L.failed_reads link.old }
+    ensures left { L.left link.new ≡ L.left link.old }
 {
     match head_status(fault) {
         Some(status) => refuse_with(alloc, link, status),
@@ -32,9 +32,11 @@ pub(crate) fn refuse<L: Link>(alloc: Global, link: &mut L, fault: HeadFault) -> 
 
 /// The end of a connection whose bytes brought no request and have no status.
 fn unanswered<L: Link>(link: &mut L, fault: HeadFault) -> End
+    ensures told { Writes (Refuses result fault) (L.out link.old) (L.out link.new) }
     ensures why { (n : ℕ) → reads_at result n ≡ reads_after {T = ℕ} (Err fault) n }
     ensures writes { L.failed_writes link.new ≡ writes_at result (L.failed_writes link.old) }
     ensures reads { L.failed_reads link.new ≡ L.failed_reads link.old }
+    ensures left { L.left link.new ≡ L.left link.old }
 {
     match fault {
         HeadFault::Cut => End::Cut,
@@ -46,10 +48,11 @@ fn unanswered<L: Link>(link: &mut L, fault: HeadFault) -> End
 /// Answers a status and closes.
 fn refuse_with<L: Link>(alloc: Global, link: &mut L, status: u16) -> End
     requires { IsReply (status_alone status) }
-    ensures closed { result ≡ End.Closed → L.out link.new ≡ extended (L.out link.old) (bytes_of (status_alone status) true) }
+    ensures told { Writes (RefusesWith result status) (L.out link.old) (L.out link.new) }
     ensures no_read { (n : ℕ) → reads_at result n ≡ n }
     ensures writes { L.failed_writes link.new ≡ writes_at result (L.failed_writes link.old) }
     ensures reads { L.failed_reads link.new ≡ L.failed_reads link.old }
+    ensures left { L.left link.new ≡ L.left link.old }
 {
     let Ok(bytes) = refusal_bytes(alloc, status) else {
         return out_of_memory(link);
@@ -71,10 +74,10 @@ fn refusal_bytes(alloc: Global, status: u16) -> Result<Vec<u8>, AllocError>
 
 /// Answers want of memory, without taking any, and ends the connection.
 pub(crate) fn out_of_memory<L: Link>(link: &mut L) -> End
-    ensures told { result ≡ End.Memory → L.out link.new ≡ extended (L.out link.old) memory_reply }
-    ensures ended { (result ≡ End.Memory) ⊎ (result ≡ End.WriteFault) }
+    ensures told { Writes (WantsMemory result) (L.out link.old) (L.out link.new) }
     ensures writes { L.failed_writes link.new ≡ writes_at result (L.failed_writes link.old) }
     ensures reads { L.failed_reads link.new ≡ L.failed_reads link.old }
+    ensures left { L.left link.new ≡ L.left link.old }
 {
     match write_all(link, MEMORY_REPLY) {
         Ok(()) => End::Memory,

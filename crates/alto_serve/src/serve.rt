@@ -1,10 +1,13 @@
-ghost use Rattle.std.specs.Prelude.{◌≡◌, ◌≢◌, ℕ, Err, IfOk, OnErr, All};
+ghost use Rattle.std.specs.Prelude.{◌≡◌, ◌≢◌, ℕ, false, None, Err, IfOk, IfSome, OnErr, All};
+ghost use Rattle.alto_http.specs.Link.{followed_by};
 ghost use Rattle.alto_rules.specs.Rules.{IsEdit};
 ghost use Rattle.alto_book.specs.Book.{Extends, rows_of};
 ghost use Rattle.alto_book.specs.declared.fault.EditFault.TheVariants as fault;
 ghost use Rattle.alto_serve.specs.Answers.{answer_to, BringsEdits, HasBytes};
-ghost use Rattle.alto_serve.specs.Reply.{IsReply, ReplyData, bytes_of};
-ghost use Rattle.alto_serve.specs.Turns.{IsTold, TakesTurn, HasEffectOrNone, reads_at, writes_at, reads_so_far, writes_so_far};
+ghost use Rattle.alto_serve.specs.Connections.{setting_of, Replies, Ended, Writes};
+ghost use Rattle.alto_serve.specs.Reply.{IsReply};
+ghost use Rattle.alto_serve.specs.Steps.{GoesOn, Finishes, Responds};
+ghost use Rattle.alto_serve.specs.Turns.{IsMoment, IsTold, TakesTurn, HasEffectOrNone, reads_at, writes_at, reads_so_far, writes_so_far};
 
 use crate::answering::answer;
 use crate::clock::Clock;
@@ -25,7 +28,7 @@ use std::alloc::{AllocError, Global};
 const MOST_REQUESTS: u32 = 1_000_000;
 
 /// Serves a connection to its end: reads requests, answers each at the version that the desk has then, and writes the
-/// replies.
+/// replies. How it ended tells what became of the requests that its bytes are, and what was written.
 pub fn serve_conn<R: RowStore, L: Link, C: Clock>(
     alloc: Global,
     desk: &mut Desk<R>,
@@ -33,6 +36,11 @@ pub fn serve_conn<R: RowStore, L: Link, C: Clock>(
     clock: &C,
     side: Side,
 ) -> End
+    // Where the link tells its bytes, they are answered in turn, up to this end.
+    ensures served { IfSome (L.left link.old) (λ bytes. Writes
+        (λ written. Ended result (setting_of side (C.tells clock.now)) bytes (L.left link.new) desk.old written desk.new)
+        (L.out link.old) (L.out link.new)) }
+
     ensures reads { L.failed_reads link.new ≡ reads_at result (L.failed_reads link.old) }
     ensures writes { L.failed_writes link.new ≡ writes_at result (L.failed_writes link.old) }
     ensures book { Extends desk.new desk.old }
@@ -43,7 +51,7 @@ pub fn serve_conn<R: RowStore, L: Link, C: Clock>(
     let Ok(mut intake) = Intake::new(alloc) else {
         return End::Memory;
     };
-    for _ in 0..MOST_REQUESTS {
+    for _count in 0..MOST_REQUESTS {
         if let Some(end) = serve_next(alloc, &routes, desk, &mut intake, link, clock) {
             return end;
         }
@@ -60,6 +68,13 @@ fn serve_next<R: RowStore, L: Link, C: Clock>(
     link: &mut L,
     clock: &C,
 ) -> Option<End>
+    ensures on { result ≡ None → IfSome (followed_by intake.old (L.left link.old)) (λ rest. Writes
+        (λ written. GoesOn (setting_of routes.now (C.tells clock.now)) rest (followed_by intake.new (L.left link.new)) desk.old written desk.new)
+        (L.out link.old) (L.out link.new)) }
+    ensures ended { IfSome result (λ end. IfSome (followed_by intake.old (L.left link.old)) (λ rest. Writes
+        (λ written. Finishes end (setting_of routes.now (C.tells clock.now)) rest (L.left link.new) desk.old written desk.new)
+        (L.out link.old) (L.out link.new))) }
+
     ensures reads { L.failed_reads link.new ≡ reads_so_far result (L.failed_reads link.old) }
     ensures writes { L.failed_writes link.new ≡ writes_so_far result (L.failed_writes link.old) }
     ensures book { Extends desk.new desk.old }
@@ -80,6 +95,15 @@ fn respond<R: RowStore, L: Link, C: Clock>(
     clock: &C,
     request: &Request,
 ) -> Option<End>
+    ensures stays { result ≡ None → request.now.close ≡ false }
+    ensures on { result ≡ None → Writes
+        (λ written. Replies (setting_of routes.now (C.tells clock.now)) request.now desk.old written desk.new)
+        (L.out link.old) (L.out link.new) }
+    ensures ended { IfSome result (λ end. Writes
+        (λ written. Responds end (setting_of routes.now (C.tells clock.now)) request.now desk.old written desk.new)
+        (L.out link.old) (L.out link.new)) }
+    ensures left { L.left link.new ≡ L.left link.old }
+
     ensures reads { L.failed_reads link.new ≡ reads_so_far result (L.failed_reads link.old) }
     ensures writes { L.failed_writes link.new ≡ writes_so_far result (L.failed_writes link.old) }
     ensures book { Extends desk.new desk.old }
@@ -102,10 +126,10 @@ fn answered<R: RowStore, C: Clock>(
     clock: &C,
     request: &Request,
 ) -> Result<Vec<u8>, AllocError>
-    ensures ok { IfOk result (λ bytes. (reply : ReplyData) × TakesTurn request.now routes.now desk.old reply desk.new
-        × (bytes.items ≡ bytes_of reply request.now.close)) }
+    ensures ok { IfOk result (λ bytes.
+        Replies (setting_of routes.now (C.tells clock.now)) request.now desk.old bytes.items desk.new) }
     ensures book { Extends desk.new desk.old }
-    ensures err { OnErr result (HasEffectOrNone request.now routes.now desk.old desk.new) }
+    ensures err { OnErr result (HasEffectOrNone (C.tells clock.now) request.now routes.now desk.old desk.new) }
 {
     let reply = take_turn(alloc, routes, desk, clock, request)?;
     reply_bytes(alloc, &reply, request.close)
@@ -119,10 +143,10 @@ fn take_turn<R: RowStore, C: Clock>(
     clock: &C,
     request: &Request,
 ) -> Result<Reply, AllocError>
-    ensures ok { IfOk result (λ reply. TakesTurn request.now routes.now desk.old reply desk.new) }
+    ensures ok { IfOk result (λ reply. TakesTurn (C.tells clock.now) request.now routes.now desk.old reply desk.new) }
     ensures book { Extends desk.new desk.old }
     ensures bytes { IfOk result IsReply }
-    ensures err { OnErr result (HasEffectOrNone request.now routes.now desk.old desk.new) }
+    ensures err { OnErr result (HasEffectOrNone (C.tells clock.now) request.now routes.now desk.old desk.new) }
 {
     match look(alloc, routes, desk, request)? {
         Answer::Reply(reply) => Ok(reply),
@@ -155,7 +179,7 @@ fn edit<R: RowStore, C: Clock>(
     command: Command,
 ) -> Result<Result<Receipt, EditFault>, AllocError>
     requires { All IsEdit command.edits }
-    ensures told { IfOk result (λ outcome. (moment : ℕ) × IsTold desk.old command moment outcome desk.new) }
+    ensures told { IfOk result (λ outcome. (moment : ℕ) × IsMoment (C.tells clock.now) moment × IsTold desk.old command moment outcome desk.new) }
     ensures known { IfOk result (λ outcome. outcome ≢ Err fault.Memory) }
     ensures err { OnErr result (desk.new ≡ desk.old) }
 {

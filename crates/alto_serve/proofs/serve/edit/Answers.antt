@@ -8,7 +8,7 @@ pub returns-in_default : goal.returns-in_default
 returns-in_default g c =
     let other : c.in-Err.fault ≢ fault.Memory = c.in_default.not-Memory in
     record {
-      told = (c.now.result, told_refused _ _ c.now.result _ _ (c.in-Err.ensures.err other) c.in-Err.ensures.unchanged);
+      told = (c.now.result, c.now.ensures, told_refused _ _ c.now.result _ _ (c.in-Err.ensures.err other) c.in-Err.ensures.unchanged);
       known = λ e. other cc;
       err = tt;
     }

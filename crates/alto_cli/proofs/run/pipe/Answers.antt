@@ -1,0 +1,5 @@
+use Rattle.alto_cli.proofs.PipeLemmas.{piped_never}
+use Rattle.alto_cli.proofs.run.pipe.Goals as goal
+
+pub returns-in_default-clause-served : goal.returns-in_default-clause-served
+returns-in_default-clause-served g c = piped_never _ (g.L.Link.left c.args.console.now) _ _

@@ -1,0 +1,26 @@
+use Rattle.std.proofs.Common.{◌<◌, refl, ◌∙◌, arith}
+use Rattle.alto_book.proofs.AcceptanceLemmas.{extends_on}
+use Rattle.alto_serve.proofs.ConnectionLemmas.{served_more, served_never, served_to_end}
+use Rattle.alto_serve.proofs.serve.serve_conn.Goals as goal
+
+pub returns-in_default-clause-served : goal.returns-in_default-clause-served
+returns-in_default-clause-served g c = served_never _ _ (g.L.Link.left c.args.link.now) _ _
+
+pub returns-in_default-new-clause-served : goal.returns-in_default-new-clause-served
+returns-in_default-new-clause-served g c = served_never _ _ (g.L.Link.left c.args.link.now) _ _
+
+pub returns-in-Some-clause-served : goal.returns-in-Some-clause-served
+returns-in-Some-clause-served g c =
+    let few : c.loop-count._count < 1000000 = omega arith in
+    served_to_end _ _ _ _ _ _ _ _ _ _ _ _ few c.loop-count.invariant.served (rw c.in-Ok.ensures at c.in-Some.ensures.ended)
+
+pub loop-count-preserved : goal.loop-count-preserved
+loop-count-preserved g c =
+    let next = c.in_default-serve_next.ensures in
+    let before = c.loop-count.invariant in
+    record {
+      served = served_more _ _ _ _ _ _ _ _ _ _ _ before.served (rw c.in-Ok.ensures at (next.on refl));
+      reads = next.reads ∙ before.reads;
+      writes = next.writes ∙ before.writes;
+      book = extends_on _ _ _ before.book next.book;
+    }
