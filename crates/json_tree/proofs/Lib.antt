@@ -1,3 +1,6 @@
+pub mod Lookups
 pub mod Objects
+pub mod OrderLemmas
 pub mod Reading
+pub mod TextLemmas
 pub mod Trees

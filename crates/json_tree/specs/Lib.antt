@@ -1,3 +1,7 @@
 pub mod Document
+pub mod Faults
+pub mod Laws
 pub mod Members
+pub mod Order
 pub mod Tree
+pub mod Whole

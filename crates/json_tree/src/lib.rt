@@ -5,14 +5,22 @@
 //! stated as such a value (`array_of`, `object_of`), and its text is `compact_text` of it.
 #![tactic(auto)]
 
+mod copying;
+mod fault;
+mod laws;
+mod looking;
 mod members;
 mod name;
+mod parsing;
 #[cfg(test)]
 mod tests;
 mod tree;
 mod writing;
 
+pub use fault::TreeFault;
+pub use laws::{texts_read_back, values_are_read};
 pub use members::Members;
 pub use name::Name;
+pub use parsing::read;
 pub use tree::Tree;
 pub use writing::text;

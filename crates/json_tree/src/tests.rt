@@ -3,6 +3,8 @@ ghost use Rattle.serde_json.specs.Data.{string};
 ghost use Rattle.json_tree.specs.Document.{array_of, object_of};
 ghost use Rattle.json_tree.specs.Tree.{data_of};
 
+mod texts;
+
 use crate::{Members, Name, Tree, text};
 use std::alloc::{AllocError, Global};
 use std::test::Fail;

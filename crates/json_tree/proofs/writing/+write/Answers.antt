@@ -48,4 +48,5 @@ write_members-loop-name-preserved t c =
         λ rest. l.invariant.reads.2 (
             rw (step, c.in_ok-write.ensures.reads, last) rest),
       );
+      whole = rw c.in_ok-write.ensures.whole at (rw step at l.invariant.whole);
     }

@@ -4,6 +4,7 @@ use Rattle.serde_json.specs.Data.{no_members}
 use Rattle.serde_json.specs.Read.{of_items, of_members}
 use Rattle.serde_json.specs.Written.{items_outline, members_outline}
 use Rattle.json_tree.specs.Tree.{items_data, entries_data}
+use Rattle.json_tree.specs.Whole.{items_are_whole, members_are_whole}
 use Rattle.json_tree.proofs.Objects.{Entry}
 use Rattle.json_tree.proofs.writing.+write.Given as goal
 
@@ -16,6 +17,7 @@ invariant-write_items-loop-tree l =
       before : l.out.before ≡ l.initial.out.before;
       tokens : l.out.tokens ++ items_tokens (items_outline left) ≡ l.initial.out.tokens ++ items_tokens (items_outline all);
       reads : of_items (items_outline left) ≡ Some left → of_items (items_outline all) ≡ Some all;
+      whole : items_are_whole left ≡ items_are_whole all;
     }
 
 -- the same of the members
@@ -27,4 +29,5 @@ invariant-write_members-loop-name l =
       before : l.out.before ≡ l.initial.out.before;
       tokens : l.out.tokens ++ members_tokens (members_outline left) ≡ l.initial.out.tokens ++ members_tokens (members_outline all);
       reads : (done : List Entry) × (l.members.entries ≡ done ++ l.name-iterator) × (of_members (members_outline left) (entries_data done) ≡ Some all → of_members (members_outline all) no_members ≡ Some all);
+      whole : members_are_whole left ≡ members_are_whole all;
     }
