@@ -1,5 +1,5 @@
--- What a fault of reading says of the text.
-use Rattle.std.specs.Prelude.{ℕ, List}
+-- What a fault of reading says of the text, and what is written of it.
+use Rattle.std.specs.Prelude.{ℕ, List, ◌++◌, decimal, codes}
 use Rattle.alto_addr.specs.declared.addr.Addr.{Addr}
 use Rattle.alto_addr.specs.declared.fault.AddrFault.{AddrFault}
 use Rattle.alto_addr.specs.declared.fault.AddrFault.TheVariants.{BadText, BadLength, HostBits}
@@ -25,3 +25,9 @@ abbrev pub IsLengthFault : Addr → ℕ → AddrFault → Type 0
 IsLengthFault addr len (BadText place) = ⊥
 IsLengthFault addr len BadLength = ¬ (HasLength addr len)
 IsLengthFault addr len HostBits = HasLength addr len × ¬ (HasNoHostBits addr len)
+
+-- what is written of a fault
+abbrev pub fault_text : AddrFault → List ℕ
+fault_text (BadText place) = codes "a fault at place " ++ decimal place
+fault_text BadLength = codes "a length greater than the address"
+fault_text HostBits = codes "a bit past the length isn't zero"

@@ -13,6 +13,11 @@ pub enum AddrFault {
 }
 
 impl fmt::Display for AddrFault {
+    ghost use Rattle.std.specs.Prelude.{Some};
+    ghost use Rattle.alto_addr.specs.Faults.{fault_text};
+
+    ghost output = { λ fault. Some (fault_text fault) };
+
     fn fmt<W: fmt::Write>(&self, f: &mut fmt::Formatter<W>) -> fmt::Result {
         match self {
             AddrFault::BadText(place) => write!(f, "a fault at place {place}"),
