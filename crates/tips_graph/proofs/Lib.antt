@@ -1,0 +1,4 @@
+pub mod KeySetLemmas
+pub mod SpanLemmas
+pub mod PushLemmas
+pub mod GraphLaws

@@ -1,0 +1,6 @@
+pub mod Keys
+pub mod Edges
+pub mod Graph
+pub mod Sound
+pub mod Table
+pub mod Laws

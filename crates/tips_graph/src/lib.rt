@@ -1,0 +1,24 @@
+//! The updates graph of one resource (RFC 9569, section 3): the numbers that are kept, the rows at each, and the keys that
+//! lead from each to the next.
+//!
+//! ```text
+//!   0 ─────▶ any kept number              first                        last
+//!            (a snapshot)                   ●──▶●──▶●──▶ ··· ──▶●──▶●──▶●──▶ ○ awaited
+//!                                           each step: the keys that were written
+//! ```
+#![tactic(auto)]
+
+mod graph;
+mod keys;
+mod laws;
+mod status;
+mod step;
+#[cfg(test)]
+mod tests;
+
+pub use graph::Graph;
+pub use laws::{
+    a_push_goes_on, each_edge_has_one_status, kept_steps_are_here, recommended_is_here_or_awaited,
+    rows_are_those_of_the_push, span_is_of_the_pushes,
+};
+pub use status::EdgeStatus;
