@@ -1,11 +1,11 @@
 -- Edits so far, before those of the records that are left.
-use Rattle.std.proofs.Common.{◌≡◌, ◌≢◌, ℕ, suc, List, [], ◌∷◌, ◌++◌, length, drop, slice_get, Some, None, Result, Ok, Err, refl, ap, sym, append_assoc, append-nil, arith}
+use Rattle.std.proofs.Common.{◌≡◌, ℕ, suc, List, [], ◌∷◌, ◌++◌, drop, slice_get, Some, None, Result, Ok, Err, refl, ap, sym, append_assoc, append-nil}
 use Rattle.csv.specs.Reading.{default_config, records, strip_bom}
 use Rattle.alto_rules.specs.declared.edit.Edit.{Edit}
 use Rattle.edit_forms.specs.declared.fault.FormFault.{FormFault}
-use Rattle.edit_forms.specs.declared.fault.FormFault.TheVariants.{Empty}
 use Rattle.edit_forms.specs.Columns.{record_edit}
-use Rattle.edit_forms.specs.Csv.{at_least_one, before, csv_edits, records_edits, without_header}
+use Rattle.edit_forms.specs.Csv.{csv_edits, without_header}
+use Rattle.edit_forms.specs.Edits.{at_least_one, before, records_edits}
 
 -- edits before those that follow, unless these have a fault
 abbrev pub after_edits : List Edit → Result (List Edit) FormFault → Result (List Edit) FormFault
@@ -53,13 +53,3 @@ pub csv_edits-from : (body : List ℕ) (all past : List (List (List ℕ))) (edit
     → csv_edits body ≡ at_least_one edits
 unfolding csv_edits
 csv_edits-from body all past edits opened passed made = rw (← made, passed, opened) refl
-
--- no edits are the fault of the body
-pub at_least_one-nil : (edits : List Edit) → length edits ≡ 0 → at_least_one (Ok edits) ≡ Err Empty
-at_least_one-nil [] none = refl
-at_least_one-nil (edit ∷ edits) none = absurd (omega arith)
-
--- edits are those of the body
-pub at_least_one-some : (edits : List Edit) → length edits ≢ 0 → at_least_one (Ok edits) ≡ Ok edits
-at_least_one-some [] some = absurd (some refl)
-at_least_one-some (edit ∷ edits) some = refl

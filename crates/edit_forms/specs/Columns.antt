@@ -48,9 +48,10 @@ nothing_in column ([] ∷ more) read = nothing_in (suc column) more read
 nothing_in column ((byte ∷ text) ∷ more) read = Err column
 
 -- what each operation's columns hold, and the edit that they make
-abbrev pub edit_in : Operation → List ℕ → List ℕ → List (List ℕ) → Result Edit ℕ
-edit_in NetAdd net a more = net_in 2 net >>= λ net. nothing_in 3 (a ∷ more) (edit.NetAdd net)
-edit_in PidAdd net a more = net_in 2 net >>= λ net. pid_in 3 a >>= λ pid. nothing_in 4 more (edit.PidAdd net pid)
+abbrev pub edit_in : Operation → (net a b c d : List ℕ) → Result Edit ℕ
+edit_in NetAdd net a b c d = net_in 2 net >>= λ net. nothing_in 3 (a ∷ b ∷ c ∷ d ∷ []) (edit.NetAdd net)
+edit_in PidAdd net a b c d =
+    net_in 2 net >>= λ net. pid_in 3 a >>= λ pid. nothing_in 4 (b ∷ c ∷ d ∷ []) (edit.PidAdd net pid)
 
 -- the texts of six columns, in order
 abbrev pub texts_of : Columns → List (List ℕ)
@@ -58,8 +59,8 @@ texts_of columns =
     columns.op.now ∷ columns.net.now ∷ columns.a.now ∷ columns.b.now ∷ columns.c.now ∷ columns.d.now ∷ []
 
 -- the edit of six columns, or the first column with a fault
-abbrev pub columns_edit : List ℕ → List ℕ → List ℕ → List (List ℕ) → Result Edit ℕ
-columns_edit op net a more = operation_in op >>= λ operation. edit_in operation net a more
+abbrev pub columns_edit : (op net a b c d : List ℕ) → Result Edit ℕ
+columns_edit op net a b c d = operation_in op >>= λ operation. edit_in operation net a b c d
 
 -- an edit, or the fault of a column of this row
 abbrev pub in_row : ℕ → Result Edit ℕ → Result Edit FormFault
@@ -68,5 +69,5 @@ in_row row (Err column) = Err (BadColumn row column)
 
 -- the edit of a record: of its six fields, if it has six
 abbrev pub record_edit : ℕ → List (List ℕ) → Result Edit FormFault
-record_edit row (op ∷ net ∷ a ∷ b ∷ c ∷ d ∷ []) = in_row row (columns_edit op net a (b ∷ c ∷ d ∷ []))
+record_edit row (op ∷ net ∷ a ∷ b ∷ c ∷ d ∷ []) = in_row row (columns_edit op net a b c d)
 record_edit row _ = Err (BadRecord row)

@@ -61,8 +61,8 @@ impl Columns<'_> {
 
     /// The edit that the columns make.
     fn edit(&self, alloc: Global) -> Result<Edit, ColumnFault>
-        ensures answer { IsAnswer result (columns_edit self.now.op.now self.now.net.now self.now.a.now
-            (self.now.b.now ∷ self.now.c.now ∷ self.now.d.now ∷ [])) }
+        ensures answer { IsAnswer result (columns_edit self.now.op.now self.now.net.now
+            self.now.a.now self.now.b.now self.now.c.now self.now.d.now) }
         ensures edit { IfOk result IsEdit }
     {
         match Operation::read(self.op) {
@@ -73,8 +73,8 @@ impl Columns<'_> {
 
     /// The edit of this operation that the columns make.
     fn edit_of(&self, alloc: Global, operation: Operation) -> Result<Edit, ColumnFault>
-        ensures answer { IsAnswer result (edit_in operation self.now.net.now self.now.a.now
-            (self.now.b.now ∷ self.now.c.now ∷ self.now.d.now ∷ [])) }
+        ensures answer { IsAnswer result (edit_in operation self.now.net.now
+            self.now.a.now self.now.b.now self.now.c.now self.now.d.now) }
         ensures edit { IfOk result IsEdit }
     {
         match operation {

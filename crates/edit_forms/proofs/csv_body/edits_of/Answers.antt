@@ -5,7 +5,7 @@ use Rattle.std.proofs.lemmas.Result.{err_from_is_err_and}
 use Rattle.csv.specs.Records.{fields_of}
 use Rattle.alto_rules.specs.Rules.{IsEdit}
 use Rattle.edit_forms.proofs.EditLemmas.{first_fault, no_more, one_more}
-use Rattle.edit_forms.proofs.body.edits_of.Goals as goal
+use Rattle.edit_forms.proofs.csv_body.edits_of.Goals as goal
 
 pub returns-in_err-edit_of-clause-err : goal.returns-in_err-edit_of-clause-err
 returns-in_err-edit_of-clause-err c =

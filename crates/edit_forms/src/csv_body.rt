@@ -2,8 +2,10 @@ ghost use Rattle.std.specs.Prelude.{◌≡◌, ◌≢◌, List, Ok, Err, IfOk, I
 ghost use Rattle.csv.specs.Records.{fields_of};
 ghost use Rattle.alto_rules.specs.Rules.{IsEdit};
 ghost use Rattle.edit_forms.specs.Columns.{record_edit};
-ghost use Rattle.edit_forms.specs.Csv.{csv_edits, records_edits};
+ghost use Rattle.edit_forms.specs.Csv.{csv_edits};
+ghost use Rattle.edit_forms.specs.Edits.{records_edits};
 
+use crate::edits::at_least_one;
 use crate::fault::FormFault;
 use crate::records::{Records, columns_of};
 use alto_rules::Edit;
@@ -19,11 +21,7 @@ pub fn read_csv(alloc: Global, body: &[u8]) -> Result<Vec<Edit>, FormFault>
 {
     let mut records = Records::open(alloc, body)?;
     records.pass_header()?;
-    let edits = edits_of(alloc, &mut records)?;
-    if edits.is_empty() {
-        return Err(FormFault::Empty);
-    }
-    Ok(edits)
+    at_least_one(edits_of(alloc, &mut records)?)
 }
 
 /// The edits of the records that are left, which are numbered from 1.
