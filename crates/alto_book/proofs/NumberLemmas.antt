@@ -74,7 +74,7 @@ numbered rows batch of n s follows has =
         (is.1, rw (follows.whole, value_of-batch rows edits of s follows.of_edits, raised) (sym is.1))
 
 -- a later version is no lower
-version_of-later : (book : Book) (m n : ℕ) (of : Resource) → IsLegal book → m ≤ n → version_of (state_at book m) of ≤ version_of (state_at book n) of
+pub version_of-later : (book : Book) (m n : ℕ) (of : Resource) → IsLegal book → m ≤ n → version_of (state_at book m) of ≤ version_of (state_at book n) of
 version_of-later book m zero of legal le =
     let none : m ≡ 0 = omega arith in
     rw none (omega arith)

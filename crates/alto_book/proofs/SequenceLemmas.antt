@@ -51,7 +51,7 @@ none_versions rows [] at no_version = tt
 none_versions rows (one ∷ ofs) at no_version = (no_version one, none_versions rows ofs at no_version)
 
 -- the writes of edits are of no version row
-none_edits : (edits : List Write) (of : Resource) → AllByRecursion (λ write. IsOfEdit write.key) edits → NoneWrites (key.Seq of) edits
+pub none_edits : (edits : List Write) (of : Resource) → AllByRecursion (λ write. IsOfEdit write.key) edits → NoneWrites (key.Seq of) edits
 unfolding key_cmp
 none_edits [] of all = tt
 none_edits (write ∷ edits) of all = (by write.key all.0, none_edits edits of all.1)

@@ -4,3 +4,5 @@ pub mod Book
 pub mod Acceptance
 pub mod Legal
 pub mod Laws
+pub mod Numbers
+pub mod NumberLaws

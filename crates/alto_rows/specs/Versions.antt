@@ -1,4 +1,4 @@
--- What rows tell of their epoch, their window and the versions of resources (RFC 9569, section 5), and the tag of a version (RFC 7285, section 10.3).
+-- What rows tell of their epoch, their window and the versions of resources (RFC 9569, section 3), and the tag of a version (RFC 7285, section 10.3).
 use Rattle.std.specs.Prelude.{ℕ, Bool, List, [], ◌++◌, Option, Some, None, codes, decimal}
 use Rattle.alto_rows.specs.declared.key.Key.TheVariants as key
 use Rattle.alto_rows.specs.declared.resource.Resource.{Resource}

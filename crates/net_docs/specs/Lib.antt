@@ -1,2 +1,3 @@
 pub mod NetworkMap
+pub mod Laws
 pub mod Examples

@@ -6,10 +6,12 @@
 #![tactic(auto)]
 
 mod document;
+mod laws;
 mod pids;
 #[cfg(test)]
 mod tests;
 mod version;
 
 pub use document::{net_doc, version_tag};
-pub use version::tag;
+pub use laws::map_is_of_its_keys;
+pub use version::{epoch, tag};

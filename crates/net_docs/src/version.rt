@@ -16,7 +16,7 @@ pub fn tag<R: RowStore>(alloc: Global, rows: &R, of: &Resource) -> Result<Name, 
 }
 
 /// The epoch of the rows, empty where they have none.
-fn epoch<R: RowStore>(rows: &R) -> &str
+pub fn epoch<R: RowStore>(rows: &R) -> &str
     ensures { result.now ≡ epoch_of (R.rows rows.now) }
 {
     match rows.get(&Key::Epoch) {

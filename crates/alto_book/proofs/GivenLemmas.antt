@@ -1,0 +1,194 @@
+-- What a batch that follows rows gives a resource: its next number, where the edits touch it and it is declared; else nothing that touches it.
+use Rattle.std.proofs.Common.{◌≡◌, refl, ap, sym, ◌∙◌}
+use Rattle.std.proofs.lemmas.Bool.{both_ways}
+use Rattle.std.proofs.lemmas.List.{map-append}
+use Rattle.std.proofs.lemmas.List.Elements.{filter-append, recursion_from_All}
+use Rattle.std.proofs.lemmas.List.Folds.{list_any-append}
+use Rattle.std.specs.Cmp.Lexicographic.{same_text}
+use Rattle.std.specs.Prelude.{ℕ, ◌+◌, ◌==◌, Bool, true, false, cond, ◌||◌, ◌&&◌, List, [], ◌∷◌, ◌++◌, map, filter, Option}
+use Rattle.std.specs.BTreeMap.{is_at}
+use Rattle.std.specs.List.{list_any}
+use Rattle.std.specs.Ordering.{is_eq}
+use Rattle.alto_rows.specs.declared.key.Key.{Key}
+use Rattle.alto_rows.specs.declared.key.Key.TheVariants as key
+use Rattle.alto_rows.specs.declared.resource.Resource.{Resource}
+use Rattle.alto_rows.specs.declared.resource.Resource.TheVariants as resource
+use Rattle.alto_rows.specs.declared.value.Value.{Value}
+use Rattle.alto_rows.specs.declared.write.Write.{Write}
+use Rattle.alto_rows.proofs.WriteLemmas.{NoneWrites}
+use Rattle.alto_rows.specs.Accepted.{Accepted}
+use Rattle.alto_rows.specs.Order.{key_cmp, resource_cmp, same_name}
+use Rattle.alto_rows.specs.Rows.{Rows, AreSorted, value_of, after}
+use Rattle.alto_rows.specs.Touches.{touches}
+use Rattle.alto_rows.specs.Versions.{number_in, is_declared, version_of}
+use Rattle.alto_rules.specs.Versions.{resources_of, is_written, is_touched, next_version, sequence_writes}
+use Rattle.alto_rules.proofs.ResourceLemmas.{resources_found}
+use Rattle.alto_rows.specs.Good.{AreGood}
+use Rattle.alto_book.specs.Legal.{IsOfEdit, Follows}
+use Rattle.alto_book.specs.Numbers.{is_number, gives, renews, touching}
+use Rattle.alto_book.proofs.BatchLemmas.{is_declared-batch}
+use Rattle.alto_book.proofs.SameLemmas.{one_resource, stands, stands-filter}
+use Rattle.alto_book.proofs.SequenceLemmas.{next_of, none_edits, value_of-batch}
+
+-- the edits of a batch raise a resource
+abbrev pub raised : Rows → List Write → Resource → Bool
+raised rows edits of = is_touched edits of && is_declared (after rows edits) of
+
+-- ---- the version rows that a test finds
+
+-- a test of a resource's version row and of its value
+abbrev is_version : Resource → (Option Value → Bool) → Write → Bool
+is_version of test write = is_at (key_cmp (key.Seq of)) write.key && test write.value
+
+-- it finds none of other keys
+none_found : (at : Key) (test : Option Value → Bool) (writes : List Write) → NoneWrites at writes → list_any (λ write. is_at (key_cmp at) write.key && test write.value) writes ≡ false
+none_found at test [] none = refl
+none_found at test (write ∷ writes) none = rw none.0 (none_found at test writes none.1)
+
+-- of version rows it finds that of the resource
+found_among : (rows : Rows) (of : Resource) (test : Option Value → Bool) (ofs : List Resource)
+    → list_any (is_version of test) (map (next_version rows) ofs) ≡ (stands of ofs && test (next_of rows of))
+unfolding key_cmp
+found_among rows of test [] = refl
+found_among rows of test (one ∷ ofs) = by (is_eq (resource_cmp of one)) refl (test (next_of rows of)) refl (found_among rows of test ofs)
+  where
+    by : (c : Bool) → is_eq (resource_cmp of one) ≡ c → (t : Bool) → test (next_of rows of) ≡ t
+        → list_any (is_version of test) (map (next_version rows) ofs) ≡ (stands of ofs && test (next_of rows of))
+        → (is_eq (resource_cmp of one) && test (next_of rows one) || list_any (is_version of test) (map (next_version rows) ofs))
+        ≡ ((is_eq (resource_cmp of one) || stands of ofs) && test (next_of rows of))
+    by true e t f below =
+        let same : test (next_of rows one) ≡ t = ap (λ (r : Resource). test (next_of rows r)) (sym (one_resource of one e)) ∙ f in
+        rw (e, same, below, f) (ends t (stands of ofs))
+      where
+        ends : (t s : Bool) → (t || (s && t)) ≡ t
+        ends true s = refl
+        ends false true = refl
+        ends false false = refl
+    by false e t f below = rw e below
+
+-- in a batch it finds the next version, where the edits raise the resource
+found_in : (rows : Rows) (batch : Accepted) (of : Resource) (test : Option Value → Bool) → (follows : Follows rows batch)
+    → list_any (is_version of test) batch.writes ≡ (raised rows follows.edits of && test (next_of rows of))
+found_in rows batch of test follows =
+    ap (list_any (is_version of test)) follows.whole
+    ∙ (list_any-append (is_version of test) edits (sequence_writes rows edits)
+    ∙ (rw (none_found (key.Seq of) test edits (none_edits edits of (recursion_from_All (λ (write : Write). IsOfEdit write.key) edits follows.of_edits)))
+    (found_among rows of test (filter (is_touched edits) (resources_of (after rows edits)))
+    ∙ ap (λ (b : Bool). b && test (next_of rows of)) standing)))
+  where
+    edits : List Write
+    edits = follows.edits
+
+    standing : stands of (filter (is_touched edits) (resources_of (after rows edits))) ≡ raised rows edits of
+    standing = stands-filter (is_touched edits) of (resources_of (after rows edits)) ∙ ap (λ (b : Bool). is_touched edits of && b) (resources_found (after rows edits) of)
+
+-- a batch gives the next number of a resource that its edits raise, and no other
+pub gives-batch : (rows : Rows) (batch : Accepted) (of : Resource) (number : ℕ) → (follows : Follows rows batch)
+    → gives of number batch ≡ (raised rows follows.edits of && version_of rows of + 1 == number)
+gives-batch rows batch of number follows = found_in rows batch of (is_number number) follows
+
+with_true : (b : Bool) → (b && true) ≡ b
+with_true true = refl
+with_true false = refl
+
+any_value : (test : Write → Bool) (writes : List Write) → list_any test writes ≡ list_any (λ write. test write && true) writes
+any_value test [] = refl
+any_value test (write ∷ writes) = rw (with_true (test write)) (ap (λ (b : Bool). test write || b) (any_value test writes))
+
+-- a batch gives a number exactly to the resources that its edits raise
+pub renews-batch : (rows : Rows) (batch : Accepted) (of : Resource) → (follows : Follows rows batch) → renews of batch ≡ raised rows follows.edits of
+renews-batch rows batch of follows =
+    any_value (λ (write : Write). is_at (key_cmp (key.Seq of)) write.key) batch.writes
+    ∙ (found_in rows batch of (λ _. true) follows ∙ with_true (raised rows follows.edits of))
+
+-- the version after a batch
+pub version_of-renewed : (rows : Rows) (batch : Accepted) (of : Resource) → AreSorted rows → Follows rows batch
+    → version_of (after rows batch.writes) of ≡ cond (renews of batch) (version_of rows of + 1) (version_of rows of)
+version_of-renewed rows batch of s follows =
+    rw (renews-batch rows batch of follows)
+    (ap (λ (writes : List Write). version_of (after rows writes) of) follows.whole
+    ∙ (ap number_in (value_of-batch rows follows.edits of s follows.of_edits) ∙ by (raised rows follows.edits of)))
+  where
+    by : (b : Bool) → number_in (cond b (next_of rows of) (value_of rows (key.Seq of))) ≡ cond b (version_of rows of + 1) (version_of rows of)
+    by true = refl
+    by false = refl
+
+-- ---- what a batch that doesn't touch a resource writes
+
+-- writes none of which touch a resource have no keys that do
+pub none_touching : (of : Resource) (writes : List Write) → is_written writes of ≡ false → touching of writes ≡ []
+none_touching of [] h = refl
+none_touching of (write ∷ writes) h = by (λ g. none_touching of writes g) (touches of write.key) refl h
+  where
+    by : (is_written writes of ≡ false → touching of writes ≡ []) → (b : Bool) → touches of write.key ≡ b → (b || is_written writes of) ≡ false
+        → touching of (write ∷ writes) ≡ []
+    by below true e g = cc
+    by below false e g = rw e (below g)
+
+either_false : (a b : Bool) → (a || b) ≡ false → (a ≡ false) × (b ≡ false)
+either_false true b h = cc
+either_false false b h = (refl, h)
+
+-- edits that don't touch a resource don't write it
+unwritten : (edits : List Write) (of : Resource) → is_touched edits of ≡ false → is_written edits of ≡ false
+unwritten edits (resource.Net net) h = h
+unwritten edits (resource.Prop net) h = (either_false (is_written edits (resource.Prop net)) (is_written edits (resource.Net net)) h).0
+
+-- nor is the version of a resource that they touch of it
+other_version : (edits : List Write) (of one : Resource) → is_touched edits of ≡ false → is_touched edits one ≡ true → touches of (key.Seq one) ≡ false
+other_version edits (resource.Net net) (resource.Net other) h g = by (same_name net other) refl
+  where
+    by : (b : Bool) → same_name net other ≡ b → same_name net other ≡ false
+    by true e =
+        let same : net ≡ other = same_text net other (sym e) in
+        absurd (both_ways (is_written edits (resource.Net other)) (rw same at h) g)
+    by false e = e
+other_version edits (resource.Net net) (resource.Prop other) h g = refl
+other_version edits (resource.Prop net) (resource.Net other) h g = by (same_name net other) refl
+  where
+    by : (b : Bool) → same_name net other ≡ b → same_name net other ≡ false
+    by true e =
+        let same : net ≡ other = same_text net other (sym e) in
+        let none : is_written edits (resource.Net net) ≡ false = (either_false (is_written edits (resource.Prop net)) (is_written edits (resource.Net net)) h).1 in
+        absurd (both_ways (is_written edits (resource.Net other)) (rw same at none) g)
+    by false e = e
+other_version edits (resource.Prop net) (resource.Prop other) h g = refl
+
+-- so no version row of a batch touches a resource that its edits don't
+versions_untouched : (rows : Rows) (edits : List Write) (of : Resource) (ofs : List Resource) → is_touched edits of ≡ false
+    → touching of (map (next_version rows) (filter (is_touched edits) ofs)) ≡ []
+versions_untouched rows edits of [] h = refl
+versions_untouched rows edits of (one ∷ ofs) h = by (is_touched edits one) refl (versions_untouched rows edits of ofs h)
+  where
+    by : (b : Bool) → is_touched edits one ≡ b → touching of (map (next_version rows) (filter (is_touched edits) ofs)) ≡ []
+        → touching of (map (next_version rows) (filter (is_touched edits) (one ∷ ofs))) ≡ []
+    by true e below = rw (e, other_version edits of one h e) below
+    by false e below = rw e below
+
+-- the keys of writes in two parts that touch a resource
+pub touching-append : (of : Resource) (first second : List Write) → touching of (first ++ second) ≡ touching of first ++ touching of second
+touching-append of first second =
+    ap (filter (touches of)) (map-append (λ (write : Write). write.key) first second)
+    ∙ filter-append (touches of) (map (λ (write : Write). write.key) first) (map (λ (write : Write). write.key) second)
+
+-- a batch whose edits don't touch a resource writes no key that does
+pub untouched_batch : (rows : Rows) (batch : Accepted) (of : Resource) → (follows : Follows rows batch) → is_touched follows.edits of ≡ false
+    → touching of batch.writes ≡ []
+untouched_batch rows batch of follows h =
+    ap (touching of) follows.whole
+    ∙ (touching-append of follows.edits (sequence_writes rows follows.edits)
+    ∙ rw (none_touching of follows.edits (unwritten follows.edits of h)) (versions_untouched rows follows.edits of (resources_of (after rows follows.edits)) h))
+
+-- a batch that gives a declared resource no number writes no key that touches it
+pub quiet_batch : (rows : Rows) (batch : Accepted) (of : Resource) → AreGood rows → Follows rows batch → is_declared (after rows batch.writes) of ≡ true
+    → renews of batch ≡ false → touching of batch.writes ≡ []
+quiet_batch rows batch of good follows declared h = untouched_batch rows batch of follows (by (is_touched follows.edits of) refl)
+  where
+    stays : is_declared (after rows follows.edits) of ≡ true
+    stays = sym (is_declared-batch rows follows.edits of good) ∙ (ap (λ (writes : List Write). is_declared (after rows writes) of) (sym follows.whole) ∙ declared)
+
+    by : (b : Bool) → is_touched follows.edits of ≡ b → is_touched follows.edits of ≡ false
+    by true e =
+        let given : renews of batch ≡ true = renews-batch rows batch of follows ∙ rw (e, stays) refl in
+        absurd (both_ways (renews of batch) h given)
+    by false e = e

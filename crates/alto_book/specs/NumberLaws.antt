@@ -1,0 +1,131 @@
+-- What holds of the numbers that batches give resources: the statements of the laws.
+use Rattle.std.specs.Prelude.{◌≡◌, ℕ, ◌+◌, ◌-◌, ◌≤◌, ◌<◌, true, false, length, take, drop, Option, Some, None, slice_get, List}
+use Rattle.std.specs.BTreeMap.{is_at}
+use Rattle.std.specs.List.{flat_map, list_any}
+use Rattle.alto_rows.specs.declared.key.Key.{Key}
+use Rattle.alto_rows.specs.declared.key.Key.TheVariants as key
+use Rattle.alto_rows.specs.declared.resource.Resource.{Resource}
+use Rattle.alto_rows.specs.declared.resource.Resource.TheVariants as resource
+use Rattle.alto_rows.specs.Accepted.{Accepted}
+use Rattle.alto_rows.specs.Good.{AreGood}
+use Rattle.alto_rows.specs.Order.{key_cmp}
+use Rattle.alto_rows.specs.Rows.{Rows, value_of, has_row}
+use Rattle.alto_rows.specs.Touches.{touches}
+use Rattle.alto_rows.specs.Versions.{is_declared, version_of}
+use Rattle.alto_rules.specs.Versions.{is_written}
+use Rattle.net_docs.specs.NetworkMap.{network_map}
+use Rattle.tips_graph.specs.declared.status.EdgeStatus.TheVariants.{Here}
+use Rattle.tips_graph.specs.Edges.{recommended_edge}
+use Rattle.tips_graph.specs.Graph.{GraphData, first_of, keeps, span_of, status_of}
+use Rattle.tips_graph.specs.Graph.{rows_at as graph_rows}
+use Rattle.tips_graph.specs.Keys.{key_set}
+use Rattle.alto_book.specs.Book.{Book, Extends, state_at, rows_of}
+use Rattle.alto_book.specs.Legal.{IsLegal}
+use Rattle.alto_book.specs.Numbers.{gives, rows_at, touching, keys_between, pushes_of, updates_graph, first_kept, status_at, recommended}
+
+-- ---- each number
+
+-- one batch of the book gives a resource this number
+pub record IsGivenOnce (book : Book) (of : Resource) (number : ℕ) : Type 0 where
+  pub place : ℕ
+  pub batch : Accepted
+  pub there : slice_get book.batches place ≡ Some batch
+  pub given : gives of number batch ≡ true
+  pub only : (n : ℕ) (other : Accepted) → slice_get book.batches n ≡ Some other → gives of number other ≡ true → n ≡ place
+
+-- each number from 1 to the version is given once
+abbrev pub EachNumberIsGivenOnce : Type 0
+EachNumberIsGivenOnce = (book : Book) (of : Resource) (number : ℕ) → IsLegal book → 1 ≤ number → number ≤ version_of (rows_of book) of
+    → IsGivenOnce book of number
+
+-- a batch that writes a key of a declared network's map gives the map a number, and the network's property map
+abbrev pub TouchedMapsGetNumbers : Type 0
+TouchedMapsGetNumbers = (book : Book) (net : List ℕ) (n : ℕ) (batch : Accepted) → IsLegal book → slice_get book.batches n ≡ Some batch
+    → has_row (state_at book (n + 1)) (key.Net net) ≡ true → is_written batch.writes (resource.Net net) ≡ true
+    → (gives (resource.Net net) (version_of (state_at book (n + 1)) (resource.Net net)) batch ≡ true)
+    × (gives (resource.Prop net) (version_of (state_at book (n + 1)) (resource.Prop net)) batch ≡ true)
+
+-- ---- the pushes
+
+-- there is one for each number
+abbrev pub PushesAreNumbered : Type 0
+PushesAreNumbered = (book : Book) (of : Resource) → IsLegal book → length (pushes_of book of) ≡ version_of (rows_of book) of
+
+-- a number's push has the rows at the number, and the keys of the batch that gave it
+abbrev pub PushIsOfItsBatch : Type 0
+PushIsOfItsBatch = (book : Book) (of : Resource) (number n : ℕ) (batch : Accepted) → IsLegal book → slice_get book.batches n ≡ Some batch
+    → gives of number batch ≡ true
+    → slice_get (pushes_of book of) (number - 1) ≡ Some (record { rows = rows_at book of number; keys = key_set (touching of batch.writes) })
+
+-- behind the first number, its keys are those between the number before and it
+abbrev pub PushIsOfItsStep : Type 0
+PushIsOfItsStep = (book : Book) (of : Resource) (i : ℕ) → IsLegal book → 1 ≤ i → i + 1 ≤ version_of (rows_of book) of
+    → slice_get (pushes_of book of) i ≡ Some (record { rows = rows_at book of (i + 1); keys = keys_between book of i (i + 1) })
+
+-- the keys between two numbers are those of the pushes after the one, up to the other
+abbrev pub KeysAreThoseOfThePushes : Type 0
+KeysAreThoseOfThePushes = (book : Book) (of : Resource) (i j : ℕ) → IsLegal book → 1 ≤ i → i ≤ j → j ≤ version_of (rows_of book) of
+    → keys_between book of i j ≡ key_set (flat_map (λ push. push.keys) (take (j - i) (drop i (pushes_of book of))))
+
+-- ---- what stays as the book goes on
+
+-- the rows at a number
+abbrev pub RowsAtStay : Type 0
+RowsAtStay = (earlier later : Book) (of : Resource) (number : ℕ) → IsLegal earlier → IsLegal later → Extends later earlier
+    → 1 ≤ number → number ≤ version_of (rows_of earlier) of → rows_at later of number ≡ rows_at earlier of number
+
+-- the keys between two numbers
+abbrev pub KeysBetweenStay : Type 0
+KeysBetweenStay = (earlier later : Book) (of : Resource) (i j : ℕ) → IsLegal earlier → IsLegal later → Extends later earlier
+    → 1 ≤ i → i ≤ version_of (rows_of earlier) of → 1 ≤ j → j ≤ version_of (rows_of earlier) of
+    → keys_between later of i j ≡ keys_between earlier of i j
+
+-- the first number that is kept never falls
+abbrev pub FirstKeptNeverFalls : Type 0
+FirstKeptNeverFalls = (earlier later : Book) (of : Resource) → IsLegal earlier → IsLegal later → Extends later earlier
+    → first_kept earlier of ≤ first_kept later of
+
+-- ---- what changes between two numbers
+
+-- a batch that writes no key of a network map leaves the map
+abbrev pub UntouchedMapStays : Type 0
+UntouchedMapStays = (book : Book) (net : List ℕ) (n : ℕ) (batch : Accepted) → IsLegal book → slice_get book.batches n ≡ Some batch
+    → is_written batch.writes (resource.Net net) ≡ false → network_map (state_at book (n + 1)) net ≡ network_map (state_at book n) net
+
+-- so the map at the last number is the map of the rows now
+abbrev pub LastNumberIsNow : Type 0
+LastNumberIsNow = (book : Book) (net : List ℕ) → IsLegal book → has_row (rows_of book) (key.Net net) ≡ true
+    → network_map (rows_at book (resource.Net net) (version_of (rows_of book) (resource.Net net))) net ≡ network_map (rows_of book) net
+
+-- rows that declare a resource, and others, have one epoch, and of the keys that touch the resource only these may differ
+pub record DifferBy (keys : List Key) (rows others : Rows) (of : Resource) : Type 0 where
+  pub epoch : value_of rows key.Epoch ≡ value_of others key.Epoch
+  pub same : (at : Key) → touches of at ≡ true → list_any (is_at (key_cmp at)) keys ≡ false → value_of rows at ≡ value_of others at
+  pub before : is_declared rows of ≡ true
+  pub behind : is_declared others of ≡ true
+
+-- the rows at two numbers differ by the keys between them
+abbrev pub NumbersDifferByKeys : Type 0
+NumbersDifferByKeys = (book : Book) (of : Resource) (i j : ℕ) → IsLegal book → 1 ≤ i → i ≤ j → j ≤ version_of (rows_of book) of
+    → DifferBy (keys_between book of i j) (rows_at book of i) (rows_at book of j) of
+
+-- ---- the updates graph
+
+-- a graph tells of a resource what the book does: the numbers that it keeps, whether an edge can be had, which edge is
+-- recommended, the rows at each kept number, which are good and declare the resource, and the keys of each step that can be had
+pub record TellsNumbers (graph : GraphData) (book : Book) (of : Resource) : Type 0 where
+  pub some : 0 < graph.last
+  pub last : graph.last ≡ version_of (rows_of book) of
+  pub first : first_of graph ≡ first_kept book of
+  pub status : (i j : ℕ) → status_of graph i j ≡ status_at book of i j
+  pub recommended : (held : Option ℕ) → recommended_edge (first_of graph) graph.last held ≡ recommended book of held
+  pub leads : (i j : ℕ) → status_at book of i j ≡ Here → keeps graph j ≡ true
+  pub rows : (number : ℕ) → keeps graph number ≡ true → graph_rows graph number ≡ Some (rows_at book of number)
+  pub good : (number : ℕ) → AreGood (rows_at book of number)
+  pub declared : (number : ℕ) → keeps graph number ≡ true → is_declared (rows_at book of number) of ≡ true
+  pub snapshot : (j : ℕ) → span_of graph 0 j ≡ None
+  pub step : (i j : ℕ) → 1 ≤ i → status_at book of i j ≡ Here → span_of graph i j ≡ Some (keys_between book of i j)
+
+-- so does the updates graph of a declared resource
+abbrev pub GraphTellsNumbers : Type 0
+GraphTellsNumbers = (book : Book) (of : Resource) → IsLegal book → is_declared (rows_of book) of ≡ true → TellsNumbers (updates_graph book of) book of

@@ -1,0 +1,44 @@
+//! What holds of the numbers that batches give resources. Each law is the contract of a function that does nothing.
+
+ghost use Rattle.alto_book.specs.NumberLaws.{EachNumberIsGivenOnce, TouchedMapsGetNumbers, PushesAreNumbered, PushIsOfItsBatch, PushIsOfItsStep, KeysAreThoseOfThePushes, RowsAtStay, KeysBetweenStay, FirstKeptNeverFalls, UntouchedMapStays, LastNumberIsNow, NumbersDifferByKeys, GraphTellsNumbers};
+
+/// Each number from 1 to a resource's version was given by exactly one batch.
+pub fn each_number_is_given_once()
+    ensures { EachNumberIsGivenOnce }
+{}
+
+/// What touches the map of a declared network gives the map a number, and the network's property map too.
+pub fn touched_maps_get_numbers()
+    ensures { TouchedMapsGetNumbers }
+{}
+
+/// The updates graph of a resource has a push for each of its numbers: the rows at the number, and the keys since the last.
+pub fn pushes_are_the_numbers()
+    ensures numbered { PushesAreNumbered }
+    ensures batch { PushIsOfItsBatch }
+    ensures step { PushIsOfItsStep }
+    ensures keys { KeysAreThoseOfThePushes }
+{}
+
+/// Whatever is accepted later, the rows at a number and the keys between two stay, and the first kept number never falls.
+pub fn numbers_stay()
+    ensures rows { RowsAtStay }
+    ensures keys { KeysBetweenStay }
+    ensures first_kept { FirstKeptNeverFalls }
+{}
+
+/// A batch that doesn't touch a network map leaves it, so the map at its last number is the map now.
+pub fn untouched_maps_stay()
+    ensures batch { UntouchedMapStays }
+    ensures now { LastNumberIsNow }
+{}
+
+/// The rows at two numbers of a resource differ, of what touches the resource, by the keys between them alone.
+pub fn numbers_differ_by_keys()
+    ensures { NumbersDifferByKeys }
+{}
+
+/// The updates graph of a declared resource tells its numbers, the rows at them, the keys between them, and which edges can be had.
+pub fn graphs_tell_the_book()
+    ensures { GraphTellsNumbers }
+{}
