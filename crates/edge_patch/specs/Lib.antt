@@ -1,0 +1,4 @@
+pub mod Documents
+pub mod Merge
+pub mod Laws
+pub mod Examples
