@@ -1,5 +1,5 @@
 -- What accepting an import comes to, case by case.
-use Rattle.std.proofs.Common.{◌≡◌, ◌≢◌, ℕ, ◌+◌, List, length, Option, Some, None, Result, Ok, Err, ◌<◌, ◌-◌, ◌^◌, refl, sym, ◌∙◌, subst, arith}
+use Rattle.std.proofs.Common.{◌≡◌, ◌≢◌, ℕ, ◌+◌, List, length, Some, None, Result, Ok, Err, ◌<◌, ◌-◌, ◌^◌, refl, sym, ◌∙◌, subst, arith}
 use Rattle.std.specs.Prelude.{IfOk, IfErr, OnOk, max, All}
 use Rattle.alto_rows.specs.Accepted.{Accepted}
 use Rattle.alto_rows.specs.declared.write.Write.{Write}

@@ -1,38 +1,65 @@
 -- What a desk keeps, at its start and after a batch.
-use Rattle.std.proofs.Common.{◌≡◌, ℕ, ◌+◌, ◌≤◌, List, [], ◌∷◌, ◌++◌, length, refl, sym, length-append}
+use Rattle.std.proofs.Common.{◌≡◌, ℕ, ◌+◌, ◌≤◌, List, [], ◌∷◌, ◌++◌, length, refl, ap, sym, ◌∙◌, length-append}
 use Rattle.alto_names.specs.Name.{IsEpoch}
 use Rattle.alto_rows.specs.Accepted.{Accepted}
+use Rattle.alto_rows.specs.Good.{AreGood}
 use Rattle.alto_rows.specs.Rows.{Rows, after}
 use Rattle.alto_rows.proofs.WriteLemmas.{after-append}
-use Rattle.alto_book.specs.Book.{Book, opening_rows, writes_in}
+use Rattle.alto_book.specs.Book.{Book, opening_rows, rows_of, writes_in}
 use Rattle.alto_book.specs.Legal.{IsLegal}
 use Rattle.alto_book.proofs.GrownLemmas.{writes_in-grown}
 use Rattle.alto_book.proofs.OpeningLemmas.{legal_opening}
+use Rattle.alto_book.proofs.StateLemmas.{good_rows}
 use Rattle.alto_desk.specs.Desk.{Keeps, with_batch}
-use Rattle.alto_desk.specs.Front.{StandsFor}
+use Rattle.alto_desk.specs.Front.{Version, StandsFor, graphs_of}
 
--- a desk without batches whose version has the rows of its base
-pub keeps_opening : (epoch : List ℕ) (window : ℕ) (base rows : Rows) (batches : List Accepted) (n : ℕ)
+-- a desk without batches whose version has the rows of its base and no graphs
+pub keeps_opening : (epoch : List ℕ) (window : ℕ) (base : Rows) (batches : List Accepted) (version : Version)
     → IsEpoch epoch → 2 ≤ window → window ≤ 32
-    → base ≡ opening_rows epoch window → rows ≡ base → batches ≡ [] → n ≡ 0
-    → Keeps (record { base = base; batches = batches }) 0 n rows
-keeps_opening epoch window base rows batches n is low high opened same none zero =
-    rw (same, none, zero, opened)
-    (record { legal = legal_opening epoch window is low high; counted = refl; stands = record { number = refl; current = refl } })
+    → base ≡ opening_rows epoch window → batches ≡ [] → version.n ≡ 0 → version.rows ≡ base → version.graphs ≡ []
+    → Keeps (record { base = base; batches = batches }) 0 version
+keeps_opening epoch window base batches version is low high opened empty zero same none =
+    rw (opened, empty)
+    (record {
+      legal = legal_opening epoch window is low high;
+      counted = refl;
+      stands = record { number = zero; current = same ∙ opened; graphs = none };
+    })
 
--- a desk with one batch more, and the rows after its writes
-pub keeps_more : (book : Book) (batch : Accepted) (old_rows rows : Rows) (old_n n writes len : ℕ) (batches : List Accepted)
-    → Keeps book writes old_n old_rows → IsLegal (with_batch book batch)
-    → batches ≡ book.batches ++ batch ∷ [] → len ≡ length batch.writes → n ≡ old_n + 1 → rows ≡ after old_rows batch.writes
-    → Keeps (record { base = book.base; batches = batches }) (writes + len) n rows
-keeps_more book batch old_rows rows old_n n writes len batches keeps legal more counted next led =
-    let all = writes_in-grown book.batches batch in
+-- the rows of a book with one batch more
+pub rows_of-with_batch : (book : Book) (batch : Accepted) → after (rows_of book) batch.writes ≡ rows_of (with_batch book batch)
+rows_of-with_batch book batch =
+    rw (writes_in-grown book.batches batch) (sym (after-append book.base (writes_in book.batches) batch.writes))
+
+-- a version with one batch more stands for the book with it
+pub stands_more : (book : Book) (batch : Accepted) (old version : Version) → StandsFor old book
+    → version.n ≡ old.n + 1 → version.rows ≡ after old.rows batch.writes
+    → (version.rows ≡ rows_of (with_batch book batch) → version.graphs ≡ graphs_of (with_batch book batch)) → StandsFor version (with_batch book batch)
+stands_more book batch old version stands next led graphs =
+    let current : version.rows ≡ rows_of (with_batch book batch) =
+    led ∙ (ap (λ (rows : Rows). after rows batch.writes) stands.current ∙ rows_of-with_batch book batch) in
+    record {
+      number = rw (next, stands.number) (sym (length-append book.batches (batch ∷ [])));
+      current = current;
+      graphs = graphs current;
+    }
+
+-- a desk with one batch more, and the version after it
+pub keeps_more : (book : Book) (batch : Accepted) (writes len : ℕ) (batches : List Accepted) (old version : Version)
+    → Keeps book writes old → IsLegal (with_batch book batch)
+    → batches ≡ book.batches ++ batch ∷ [] → len ≡ length batch.writes
+    → StandsFor version (with_batch book batch)
+    → Keeps (record { base = book.base; batches = batches }) (writes + len) version
+keeps_more book batch writes len batches old version keeps legal more counted stands =
     rw more
     (record {
       legal = legal;
-      counted = rw (keeps.counted, counted, all) (sym (length-append (writes_in book.batches) batch.writes));
-      stands = record {
-        number = rw (next, keeps.stands.number) (sym (length-append book.batches (batch ∷ [])));
-        current = rw (led, keeps.stands.current, all) (sym (after-append book.base (writes_in book.batches) batch.writes));
-      };
+      counted = rw (keeps.counted, counted, writes_in-grown book.batches batch) (sym (length-append (writes_in book.batches) batch.writes));
+      stands = stands;
     })
+
+-- the rows after a batch that the book may take are good
+pub good_more : (book : Book) (batch : Accepted) (writes : ℕ) (version : Version) → Keeps book writes version → IsLegal (with_batch book batch)
+    → AreGood (after version.rows batch.writes)
+good_more book batch writes version keeps legal =
+    rw (keeps.stands.current, rows_of-with_batch book batch) (good_rows (with_batch book batch) legal)

@@ -39,7 +39,7 @@ impl<R: RowStore> Model for Desk<R> {
 
     ghost view = { λ desk. record { base = R.rows (arc_value desk.base); batches = map arc_value desk.batches.items } };
 
-    ghost invariant = { λ desk. Keeps (record { base = R.rows (arc_value desk.base); batches = map arc_value desk.batches.items }) desk.writes (arc_value desk.front).n (R.rows (arc_value (arc_value desk.front).rows)) };
+    ghost invariant = { λ desk. Keeps (record { base = R.rows (arc_value desk.base); batches = map arc_value desk.batches.items }) desk.writes (arc_value desk.front) };
 }
 
 impl<R: RowStore> Desk<R> {
@@ -53,6 +53,7 @@ impl<R: RowStore> Desk<R> {
         let front = Front {
             n: 0,
             rows: Arc::try_clone(&base)?,
+            graphs: Vec::new(alloc),
         };
         Ok(Desk {
             base,
@@ -64,7 +65,7 @@ impl<R: RowStore> Desk<R> {
 
     /// The version after all batches.
     pub fn front(&self) -> &Arc<Front<R>>
-        ensures stands { StandsFor (arc_value result.now).n (R.rows (arc_value (arc_value result.now).rows)) self.now }
+        ensures stands { StandsFor (arc_value result.now) self.now }
         ensures legal { IsLegal self.now }
     {
         &self.front
@@ -72,7 +73,8 @@ impl<R: RowStore> Desk<R> {
 
     /// Accepts an import whole, or refuses it and leaves the book as it was. One that is known gets its receipt again.
     ///
-    /// Costs what `compile` and the store's `with` cost, and one look at each batch that is kept.
+    /// Costs what `compile` and the store's `with` cost, one look at each batch that is kept, and one search for each network,
+    /// whose graphs the next version shares.
     pub fn edit(
         &mut self,
         alloc: Global,
@@ -148,12 +150,7 @@ impl<R: RowStore> Desk<R> {
             moment: batch.moment,
         };
         let writes = self.writes + batch.writes.len() as u32;
-        let rows = self.front.rows.with(alloc, &batch.writes)?;
-        let front = Front {
-            n: receipt.n,
-            rows: Arc::new(alloc, rows)?,
-        };
-        let front = Arc::new(alloc, front)?;
+        let front = Arc::new(alloc, self.front.with(alloc, &batch)?)?;
         self.batches.push(Arc::new(alloc, batch)?)?;
         self.front = front;
         self.writes = writes;

@@ -1,11 +1,66 @@
-use alto_rows::RowStore;
-use std::sync::Arc;
+ghost use Rattle.std.specs.Prelude.{◌≡◌, ◌<◌, ◌^◌, IfOk, option_map};
+ghost use Rattle.alto_rows.specs.Good.{AreGood};
+ghost use Rattle.alto_rows.specs.Rows.{after};
+ghost use Rattle.alto_book.specs.Book.{Book};
+ghost use Rattle.alto_book.specs.Legal.{IsLegal};
+ghost use Rattle.alto_desk.specs.Desk.{with_batch};
+ghost use Rattle.alto_desk.specs.Front.{StandsFor, graph_in};
 
-/// A version: the rows after some number of batches. It never changes, and readers share it.
+use crate::graphs::{graphs_after, is_same};
+use alto_rows::{Batch, Resource, RowStore};
+use std::alloc::{AllocError, Global};
+use std::marker::Model;
+use std::sync::Arc;
+use tips_graph::Graph;
+
+/// A version: the rows after some number of batches, and the updates graphs that they have led to. It never changes, and
+/// readers share it. A contract sees the number, the rows and the graphs.
 #[derive(Drop)]
 pub struct Front<R: RowStore> {
     /// How many batches led to it.
     pub n: u64,
     /// The rows.
     pub rows: Arc<R>,
+    /// The updates graph of each network map that is declared, in the order of their keys.
+    pub graphs: Vec<(Resource, Arc<Graph<R>>)>,
+}
+
+impl<R: RowStore> Model for Front<R> {
+    ghost use Rattle.std.specs.Arc.{arc_value};
+    ghost use Rattle.alto_desk.specs.Front.{Version};
+    ghost use Rattle.alto_desk.specs.Graphs.{entries};
+
+    ghost Value = { Version };
+
+    ghost view = { λ front. record { n = front.n; rows = R.rows (arc_value front.rows); graphs = entries front.graphs.items } };
+}
+
+impl<R: RowStore> Front<R> {
+    /// The updates graph of a resource, where it is kept. Linear in the number of those that are.
+    pub fn graph(&self, of: &Resource) -> Option<&Graph<R>>
+        ensures { option_map (λ graph. graph.now) result ≡ graph_in self.now.graphs of.now }
+    {
+        for (resource, graph) in &self.graphs {
+            if is_same(of, resource) {
+                return Some(graph);
+            }
+        }
+        None
+    }
+
+    /// The version after one batch more. It shares what the batch left.
+    pub(crate) fn with(&self, alloc: Global, batch: &Batch) -> Result<Front<R>, AllocError>
+        requires room { self.now.n < 2 ^ 63 }
+        requires good { AreGood (after self.now.rows batch.now.writes) }
+        ensures { IfOk result (λ version. (book : Book) → IsLegal book → IsLegal (with_batch book batch.now)
+            → StandsFor self.now book → StandsFor version (with_batch book batch.now)) }
+    {
+        let rows = Arc::new(alloc, self.rows.with(alloc, &batch.writes)?)?;
+        let graphs = graphs_after(alloc, &self.graphs, &rows, &batch.writes)?;
+        Ok(Front {
+            n: self.n + 1,
+            rows,
+            graphs,
+        })
+    }
 }

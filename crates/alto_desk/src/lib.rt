@@ -2,13 +2,14 @@
 //!
 //! ```text
 //! import ──▶ Desk::edit ──▶ receipt
-//!              │ compile, with            Front { n, rows }  ◀── Desk::front ── every reader
+//!              │ compile, with            Front { n, rows, graphs }  ◀── Desk::front ── every reader
 //!              └────────────────────────▶ a new one for each batch; what no write touched is shared
 //! ```
 #![tactic(auto)]
 
 mod desk;
 mod front;
+mod graphs;
 mod known;
 #[cfg(test)]
 mod tests;

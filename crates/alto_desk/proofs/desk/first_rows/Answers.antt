@@ -1,4 +1,4 @@
-use Rattle.std.proofs.Common.{refl, ◌∙◌}
+use Rattle.std.proofs.Common.{refl}
 use Rattle.alto_rows.specs.Order.{key_cmp}
 use Rattle.alto_desk.proofs.desk.first_rows.Goals as goal
 

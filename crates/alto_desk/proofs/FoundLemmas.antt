@@ -1,0 +1,78 @@
+-- The updates graph of a resource among those of a book.
+use Rattle.std.proofs.Common.{◌≡◌, ℕ, ◌+◌, ◌<◌, true, false, List, [], ◌∷◌, Bool, ◌||◌, map, drop, length, get_or, Option, Some, None, if◌then◌else◌, refl, ap, sym, ◌∙◌, add-one, drop-cons}
+use Rattle.std.specs.BTreeMap.{is_at}
+use Rattle.std.specs.List.{list_any}
+use Rattle.std.proofs.lemmas.List.{drop-map}
+use Rattle.std.proofs.lemmas.List.Folds.{list_any-append}
+use Rattle.std.specs.Map.{lookup}
+use Rattle.std.specs.Ordering.{is_eq}
+use Rattle.std.specs.declared.cmp.Ordering.{Ordering}
+use Rattle.std.specs.declared.cmp.Ordering.TheVariants.{Less, Equal, Greater}
+use Rattle.alto_rows.specs.declared.resource.Resource.{Resource}
+use Rattle.alto_rows.specs.declared.resource.Resource.TheVariants as resource
+use Rattle.alto_rows.specs.Order.{name_cmp, resource_cmp}
+use Rattle.alto_rows.specs.Rows.{Rows}
+use Rattle.alto_rows.specs.Versions.{is_declared}
+use Rattle.alto_rows.proofs.OrderLemmas.{resource_cmp_exact}
+use Rattle.alto_rules.proofs.ResourceLemmas.{or_false, resources_found}
+use Rattle.alto_rules.specs.Versions.{nets_of}
+use Rattle.tips_graph.specs.Graph.{GraphData}
+use Rattle.alto_book.specs.Book.{Book, rows_of}
+use Rattle.alto_book.specs.Numbers.{updates_graph}
+use Rattle.alto_desk.specs.Front.{followed, graph_in, graphs_of}
+
+equal_tests : (o : Ordering) → is_eq o ≡ true → o ≡ Equal
+equal_tests Less h = cc
+equal_tests Equal h = refl
+equal_tests Greater h = cc
+
+-- resources whose comparison says so are one
+one_resource : (a b : Resource) → is_eq (resource_cmp a b) ≡ true → a ≡ b
+one_resource a b h = resource_cmp_exact a b (equal_tests (resource_cmp a b) h)
+
+first_or_later : (graph : Resource → GraphData) (one of : Resource) (rest : Bool) (later : Option GraphData) (b : Bool)
+    → is_eq (resource_cmp of one) ≡ b → later ≡ (if rest then Some (graph of) else None)
+    → (if b then Some (graph one) else later) ≡ (if (b || rest) then Some (graph of) else None)
+first_or_later graph one of rest later true h e = ap (λ (r : Resource). Some (graph r)) (sym (one_resource of one h))
+first_or_later graph one of rest later false h e = e
+
+-- the graph of a resource among those of some resources
+found_in : (graph : Resource → GraphData) (resources : List Resource) (of : Resource)
+    → graph_in (map (λ one. (one, graph one)) resources) of ≡ (if list_any (is_at (resource_cmp of)) resources then Some (graph of) else None)
+found_in graph [] of = refl
+found_in graph (one ∷ resources) of =
+    first_or_later graph one of (list_any (is_at (resource_cmp of)) resources) (graph_in (map (λ one. (one, graph one)) resources) of)
+    (is_eq (resource_cmp of one)) refl (found_in graph resources of)
+
+-- the graph of a resource from a place on: that of the place, or one behind it
+pub from_place : {X : Type 0} (f : X → Resource × GraphData) (items : List X) (graphs : List (Resource × GraphData)) (of : Resource) (place : ℕ) (item : X)
+    → graphs ≡ map f items → place < length items → item ≡ get_or items place item
+    → graph_in (drop place graphs) of
+    ≡ (if is_at (resource_cmp of) (f item).0 then Some (f item).1 else graph_in (drop (place + 1) graphs) of)
+from_place f items graphs of place item same within at =
+    let cut : drop place items ≡ get_or items place item ∷ drop (place + 1) items = rw (add-one, drop-cons items place item) refl in
+    let here : drop place (map f items) ≡ f item ∷ drop (place + 1) (map f items) =
+    drop-map f place items ∙ ap (map f) cut ∙ ap (λ x. f x ∷ map f (drop (place + 1) items)) (sym at) ∙ ap (λ xs. f item ∷ xs) (sym (drop-map f (place + 1) items)) in
+    rw same (ap (λ graphs. graph_in graphs of) here)
+
+-- no property map is a network map
+no_map : (net : List ℕ) (nets : List (List ℕ)) → list_any (is_at (resource_cmp (resource.Net net))) (map resource.Prop nets) ≡ false
+unfolding resource_cmp
+no_map net [] = refl
+no_map net (other ∷ nets) = no_map net nets
+
+-- the network maps that are followed are those that are declared
+followed_found : (rows : Rows) (net : List ℕ) → list_any (is_at (resource_cmp (resource.Net net))) (followed rows) ≡ is_declared rows (resource.Net net)
+followed_found rows net =
+    sym (or_false (list_any (is_at (resource_cmp (resource.Net net))) (followed rows)))
+    ∙ ap (λ b. list_any (is_at (resource_cmp (resource.Net net))) (followed rows) || b) (sym (no_map net (nets_of rows)))
+    ∙ sym (list_any-append (is_at (resource_cmp (resource.Net net))) (followed rows) (map resource.Prop (nets_of rows)))
+    ∙ resources_found rows (resource.Net net)
+
+-- the graph of a declared network's map is the book's, and no other network map has one
+pub graph_found : (book : Book) (net : List ℕ)
+    → graph_in (graphs_of book) (resource.Net net)
+    ≡ (if is_declared (rows_of book) (resource.Net net) then Some (updates_graph book (resource.Net net)) else None)
+graph_found book net =
+    found_in (updates_graph book) (followed (rows_of book)) (resource.Net net)
+    ∙ ap (λ b. if b then Some (updates_graph book (resource.Net net)) else None) (followed_found (rows_of book) net)

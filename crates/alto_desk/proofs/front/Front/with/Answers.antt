@@ -1,0 +1,22 @@
+use Rattle.std.proofs.Common.{◌+◌, ap, ◌∙◌}
+use Rattle.alto_rows.specs.Accepted.{Accepted}
+use Rattle.alto_rows.specs.Rows.{after}
+use Rattle.alto_desk.specs.Front.{Version}
+use Rattle.alto_desk.specs.Graphs.{entries}
+use Rattle.alto_desk.proofs.KeepsLemmas.{stands_more}
+use Rattle.alto_desk.proofs.front.Front.with.Goals as goal
+
+pub graphs_after-requires : goal.graphs_after-requires
+graphs_after-requires g c =
+    let led = ap g.R.RowStore.rows c.in_ok-rows.ensures.ok ∙ c.in_ok-with.ensures in
+    rw (led, c.deref.ensures, c.deref-2.ensures.value) (rw (← c.self.view_is, ← c.batch.view_is) at c.requires.good)
+
+pub returns : goal.returns
+returns g c = λ book legal legal_more stands.
+    let writes = ap (λ (batch : Accepted). batch.writes) c.batch.view_is in
+    stands_more book c.args.batch.now c.args.self.now _ stands
+    (ap (λ (version : Version). version.n + 1) c.self.view_is)
+    (ap g.R.RowStore.rows c.in_ok-rows.ensures.ok ∙ (c.in_ok-with.ensures
+    ∙ rw (c.deref.ensures, c.deref-2.ensures.value, writes) (ap (λ (version : Version). after version.rows c.args.batch.now.writes) c.self.view_is)))
+    (λ current. c.in_ok-graphs.ensures book c.args.batch.now legal legal_more current (c.deref-4.ensures.value ∙ writes)
+    (ap entries c.deref-3.ensures.value ∙ (ap (λ (version : Version). version.graphs) c.self.view_is ∙ stands.graphs)))
