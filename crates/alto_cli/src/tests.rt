@@ -1,3 +1,7 @@
+mod edges;
+mod imports;
+mod views;
+
 use crate::run::run;
 use alto_http::MemLink;
 use alto_serve::FixedClock;
@@ -27,19 +31,19 @@ fn words(alloc: Global, texts: &[&str]) -> Result<Vec<Name>, AllocError> {
 }
 
 /// The status of `pipe x` over this link.
-fn piped(alloc: Global, link: &mut MemLink) -> Result<u8, AllocError> {
+pub(crate) fn piped(alloc: Global, link: &mut MemLink) -> Result<u8, AllocError> {
     let words = words(alloc, &["pipe", "x"])?;
     Ok(run(alloc, &words, link, &FixedClock(100)))
 }
 
-fn import(alloc: Global, id: &str, body: &str) -> Result<String, AllocError> {
+pub(crate) fn import(alloc: Global, id: &str, body: &str) -> Result<String, AllocError> {
     let length = body.len();
     format!(in alloc;
         "POST /edits/{id} HTTP/1.1\r\nContent-Type: text/csv\r\nContent-Length: {length}\r\n\r\n{body}"
     )
 }
 
-fn reply(alloc: Global, status: &str, body: &str) -> Result<String, AllocError> {
+pub(crate) fn reply(alloc: Global, status: &str, body: &str) -> Result<String, AllocError> {
     let length = body.len();
     format!(in alloc;
         "HTTP/1.1 {status}\r\nContent-Type: application/json\r\nContent-Length: {length}\r\n\r\n{body}"

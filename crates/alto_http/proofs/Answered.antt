@@ -79,5 +79,5 @@ unfinished_body first old ahead left left' start size request long is at passes 
   ahead ++ came.piece,
   is ∙ ap (followed_by ahead) came.given ∙ followed_by-followed_by ahead came.piece left',
   inr (cut_in_body (Some (ahead ++ came.piece)) ahead (Some came.piece) start size request long refl at passes
-  (let P : List ℕ → Type 0 = λ bytes. length bytes < long in subst P came.behind short)),
+      (let P : List ℕ → Type 0 = λ bytes. length bytes < long in subst P came.behind short)),
 )

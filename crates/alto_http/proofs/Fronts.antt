@@ -57,11 +57,14 @@ begin_needs_no_more bytes request rest more a =
     ap (λ xs. take a.size (drop a.start xs)) whole
     ∙ ap (take a.size) (drop-append-le a.start front more start)
     ∙ take-append-le a.size (drop a.start front) more size in
-    let Q : List ℕ → Type 0 = λ xs. Passes xs (record request { body = [] }) (length request.body) in
-    (front, whole, record {
-      start = a.start;
-      size = a.size;
-      head = at;
-      passes = subst Q same a.passes;
-      body = ap (λ k. drop k front) (sym long) ∙ drop-append_seam head (request.body ++ rest);
-    })
+    let Q : List ℕ → Type 0 = λ xs. Passes xs (record request { body = [] }) (length request.body) in (
+      front,
+      whole,
+      record {
+        start = a.start;
+        size = a.size;
+        head = at;
+        passes = subst Q same a.passes;
+        body = ap (λ k. drop k front) (sym long) ∙ drop-append_seam head (request.body ++ rest);
+      },
+    )

@@ -1,6 +1,6 @@
 mod Ahead
 mod Answered
-mod FieldLemmas
+pub mod FieldLemmas
 pub mod Fronts
 mod HeadEnds
 mod HeadLines

@@ -92,7 +92,7 @@ pub(crate) fn closes(bytes: &[u8], fields: &[HeaderSpan], minor: u8) -> bool
 }
 
 /// Whether the value is 1 decimal digit or more, and nothing else.
-fn is_decimal(value: &[u8]) -> bool
+pub fn is_decimal(value: &[u8]) -> bool
     ensures { result ≡ is_decimal value.now }
 {
     !value.is_empty() && value.iter().all(|b| b.is_ascii_digit())

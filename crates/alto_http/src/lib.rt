@@ -22,9 +22,11 @@ mod tests;
 mod write;
 
 pub use fault::HeadFault;
+pub use fields::is_decimal;
 pub use intake::Intake;
 pub use laws::{
-    head_is_read_whole, next_is_one, refusal_is_by_a_check, request_leaves_the_rest, split_is_one,
+    head_is_read_whole, next_is_one, refusal_is_by_a_check, request_leaves_the_rest,
+    request_needs_no_more, split_is_one,
 };
 pub use link::{Failed, Link};
 pub use mem_link::MemLink;

@@ -1,5 +1,5 @@
 -- A connection's requests one after another, and its end.
-use Rattle.std.proofs.Common.{◌≡◌, ◌≢◌, ℕ, ◌+◌, ◌<◌, ◌≤◌, true, false, List, [], ◌∷◌, ◌++◌, length, take, Option, Some, None, IfSome, refl, sym, ap, subst, ◌∙◌, inl, inr, append_assoc, append-nil, length-append, arith}
+use Rattle.std.proofs.Common.{◌≡◌, ◌≢◌, ℕ, ◌+◌, ◌<◌, true, false, List, [], ◌∷◌, ◌++◌, length, Option, Some, None, IfSome, refl, sym, ap, subst, ◌∙◌, inl, inr, append_assoc, append-nil, length-append, arith}
 use Rattle.alto_book.specs.Book.{Book}
 use Rattle.alto_http.specs.Link.{extended, followed_by}
 use Rattle.alto_http.specs.Request.{RequestData}
@@ -7,8 +7,7 @@ use Rattle.alto_http.specs.Splits.{Begins, IsUnfinished, Ending, clean, closed, 
 use Rattle.alto_http.proofs.Fronts.{begin_needs_no_more}
 use Rattle.alto_serve.specs.declared.end.End.{End}
 use Rattle.alto_serve.specs.declared.end.End.TheVariants as end
-use Rattle.alto_serve.specs.Connections.{Setting, Replies, AnswersAll, LeadsTo, Serves, ServesAll, IsWithin, MayTakeEffect, IsNext, Ended, Writes, last_words, most_requests}
-use Rattle.alto_serve.specs.Reply.{memory_reply}
+use Rattle.alto_serve.specs.Connections.{Setting, Replies, AnswersAll, LeadsTo, Serves, ServesAll, IsWithin, Ended, Writes, last_words, most_requests}
 use Rattle.alto_serve.specs.Steps.{GoesOn, Finishes, HasServed}
 
 -- one request more is replied to

@@ -1,21 +1,20 @@
 -- What a request's turn makes of the book, and which replies have bytes.
-use Rattle.std.proofs.Common.{◌≡◌, ◌≢◌, ℕ, Option, Some, None, Result, Ok, Err, OnErr, refl, sym, ◌∙◌, ap, inl, inr}
-use Rattle.alto_rows.specs.Rows.{Rows}
+use Rattle.std.proofs.Common.{◌≡◌, ℕ, Option, Some, None, Result, Ok, Err, OnErr, refl, sym, ◌∙◌, ap}
 use Rattle.alto_book.specs.Acceptance.{accept}
-use Rattle.alto_book.specs.Book.{Book, Extends, rows_of}
+use Rattle.alto_rows.specs.declared.resource.Resource.{Resource}
+use Rattle.alto_book.specs.Book.{Book, Extends}
 use Rattle.alto_book.specs.Import.{Import}
 use Rattle.alto_book.specs.declared.command.Receipt.{Receipt}
 use Rattle.alto_book.specs.declared.fault.EditFault.{EditFault}
-use Rattle.alto_book.specs.declared.fault.EditFault.TheVariants as fault
-use Rattle.alto_book.proofs.AcceptanceLemmas.{extends_itself, accept_extends, refused_leaves}
-use Rattle.alto_serve.specs.declared.outcome.Answer.{Answer}
+use Rattle.alto_book.proofs.AcceptanceLemmas.{accept_extends, refused_leaves}
 use Rattle.alto_serve.specs.declared.outcome.Answer.TheVariants as answer
 use Rattle.alto_serve.specs.declared.route.Side.{Side}
 use Rattle.alto_serve.specs.Answers.{answer_to}
 use Rattle.alto_http.specs.Request.{RequestData}
+use Rattle.alto_serve.specs.Edges.{too_early}
 use Rattle.alto_serve.specs.Replies.{edit_reply}
 use Rattle.alto_serve.specs.Reply.{ReplyData}
-use Rattle.alto_serve.specs.Turns.{IsMoment, turn_of, turn, TakesTurn, HasEffectOrNone, IsTold}
+use Rattle.alto_serve.specs.Turns.{IsMoment, TakesTurn, IsTold}
 
 -- an import that is refused leaves the book, and is told why
 pub told_refused : (book : Book) (import : Import) (moment : ℕ) (why : EditFault) (later : Book)
@@ -35,15 +34,22 @@ some_moment (Some n) = (n, refl)
 
 -- a request that is replied to leaves the book, whatever the moment
 pub turn_replied : (time : Option ℕ) (request : RequestData) (side : Side) (book : Book) (reply : ReplyData)
-    → answer.Reply reply ≡ answer_to request (rows_of book) side → TakesTurn time request side book reply book
+    → answer.Reply reply ≡ answer_to request book side → TakesTurn time request side book reply book
 turn_replied time request side book reply is =
+    let when = some_moment time in
+    record { moment = when.0; timely = when.1; replied = rw (← is) refl; became = rw (← is) refl }
+
+-- a request for an awaited edge comes too early
+pub turn_held : (time : Option ℕ) (request : RequestData) (side : Side) (book : Book) (of : Resource) (i j : ℕ)
+    → answer.Hold of i j ≡ answer_to request book side → TakesTurn time request side book (too_early i) book
+turn_held time request side book of i j is =
     let when = some_moment time in
     record { moment = when.0; timely = when.1; replied = rw (← is) refl; became = rw (← is) refl }
 
 -- a request that brings an import is told what becomes of it
 pub turn_told : (time : Option ℕ) (request : RequestData) (side : Side) (book : Book) (import : Import) (moment : ℕ)
     (told : Result Receipt EditFault) (later : Book)
-    → answer.Edit import ≡ answer_to request (rows_of book) side → IsMoment time moment → IsTold book import moment told later
+    → answer.Edit import ≡ answer_to request book side → IsMoment time moment → IsTold book import moment told later
     → TakesTurn time request side book (edit_reply told) later
 turn_told time request side book import moment told later is timely h = record {
   moment = moment;

@@ -1,19 +1,15 @@
 -- What a request comes to at a version: first its route, then its method, its content type, the resource, the body.
-use Rattle.std.specs.Prelude.{ℕ, Bool, false, List, Option, Some, None, Result, Ok, Err, if◌then◌else◌, codes, ◌==◌, All}
-use Rattle.std.specs.List.{before_first}
-use Rattle.std.specs.Str.{str_to_ascii_lowercase}
-use Rattle.httparse.specs.Grammar.{trim_ows}
+use Rattle.std.specs.Prelude.{ℕ, List, Option, Some, None, Result, Ok, Err, if◌then◌else◌, codes, All}
 use Rattle.sha2.specs.Sha256.{sha256}
 use Rattle.alto_names.specs.declared.label.NameFault.{NameFault}
 use Rattle.alto_names.specs.Name.{named, is_net_byte, is_import_byte}
 use Rattle.alto_rows.specs.declared.key.Key.TheVariants as key
-use Rattle.alto_rows.specs.Order.{same_name}
 use Rattle.alto_rows.specs.Rows.{Rows, has_row}
+use Rattle.alto_book.specs.Book.{Book, rows_of}
 use Rattle.alto_rules.specs.declared.edit.Edit.{Edit}
 use Rattle.alto_rules.specs.Rules.{IsEdit}
 use Rattle.net_docs.specs.NetworkMap.{network_map}
 use Rattle.edit_forms.specs.declared.fault.FormFault.{FormFault}
-use Rattle.edit_forms.specs.Csv.{csv_edits}
 use Rattle.alto_http.specs.Request.{RequestData}
 use Rattle.alto_http.specs.declared.request.Verb.{Verb}
 use Rattle.alto_http.specs.declared.request.Verb.TheVariants as verb
@@ -26,23 +22,11 @@ use Rattle.alto_serve.specs.Reply.{ReplyData, IsReply}
 use Rattle.alto_serve.specs.Replies.{document_reply, status_alone, not_found, wrong_method, bad_form, form_reply}
 use Rattle.alto_serve.specs.Routes.{place_of}
 use Rattle.alto_serve.specs.Target.{path_of, segment}
-
--- the media type of a network map (RFC 7285, section 11.2.1.1)
-abbrev pub network_map_type : List ℕ
-network_map_type = codes "application/alto-networkmap+json"
-
--- the code of a semicolon
-abbrev pub semicolon : ℕ
-semicolon = 59
-
--- a content type without its parameters and the blanks around it, in lower case (RFC 9110, section 8.3)
-abbrev pub media_type : List ℕ → List ℕ
-media_type value = str_to_ascii_lowercase (trim_ows (before_first (λ b. b == semicolon) value))
-
--- the request has a content type, and it is this one
-abbrev pub has_type : List ℕ → Option (List ℕ) → Bool
-has_type wanted None = false
-has_type wanted (Some value) = same_name (media_type value) wanted
+use Rattle.alto_serve.specs.Tips.{tips_answer}
+use Rattle.alto_serve.specs.Types.{network_map_type}
+use Rattle.alto_serve.specs.Edges.{edges_answer}
+use Rattle.alto_serve.specs.Forms.{edits_in, form_of}
+use Rattle.alto_serve.specs.declared.form.Form.{Form}
 
 -- the map of a network, if it is declared
 abbrev pub net_reply : Rows → List ℕ → ReplyData
@@ -65,35 +49,44 @@ abbrev pub import_of : List ℕ → List ℕ → Result (List Edit) FormFault �
 import_of id digest (Ok edits) = answer.Edit (record { id = id; digest = digest; edits = edits })
 import_of id digest (Err fault) = answer.Reply (form_reply fault)
 
--- an import under an id, if it is one
-abbrev pub import_under : Result (List ℕ) NameFault → List ℕ → Answer
-import_under (Ok id) body = import_of id (sha256 body) (csv_edits body)
-import_under (Err fault) body = answer.Reply (bad_form 0 0)
+-- an import under an id, if it is one, whose body is in a form
+abbrev pub import_under : Result (List ℕ) NameFault → Form → List ℕ → Answer
+import_under (Ok id) form body = import_of id (sha256 body) (edits_in form body)
+import_under (Err fault) form body = answer.Reply (bad_form 0 0)
 
--- `/edits/{id}`: an import of CSV
+-- an import whose body is in a form, if its content type names one
+abbrev pub posted_import : Option Form → Result (List ℕ) NameFault → List ℕ → Answer
+posted_import None id body = answer.Reply (status_alone 415)
+posted_import (Some form) id body = import_under id form body
+
+-- `/edits/{id}`: an import
 abbrev pub edits_answer : Verb → Option (List ℕ) → List ℕ → List ℕ → Answer
-edits_answer verb.Post content_type id body =
-    if has_type (codes "text/csv") content_type then import_under (named is_import_byte 64 id) body else answer.Reply (status_alone 415)
+edits_answer verb.Post content_type id body = posted_import (form_of content_type) (named is_import_byte 64 id) body
 edits_answer verb.Get content_type id body = answer.Reply (wrong_method verb.Post)
 edits_answer verb.Other content_type id body = answer.Reply (wrong_method verb.Post)
 
 -- what a request comes to at the place where its path leads
-abbrev pub place_answer : Option Place → RequestData → Rows → Answer
-place_answer None request rows = answer.Reply (not_found (codes "route"))
-place_answer (Some place.Maps) request rows = maps_answer request.verb rows (segment (path_of request.target) 2)
-place_answer (Some place.Edits) request rows =
+abbrev pub place_answer : Option Place → RequestData → Book → Answer
+place_answer None request book = answer.Reply (not_found (codes "route"))
+place_answer (Some place.Maps) request book = maps_answer request.verb (rows_of book) (segment (path_of request.target) 2)
+place_answer (Some place.Tips) request book = tips_answer request.verb request.content_type book request.host request.body
+place_answer (Some place.Edge) request book =
+    edges_answer request.verb book (segment (path_of request.target) 2) (segment (path_of request.target) 4) (segment (path_of request.target) 5)
+place_answer (Some place.Edits) request book =
     edits_answer request.verb request.content_type (segment (path_of request.target) 2) request.body
 
--- what a request of a side comes to at these rows
-unfoldable pub answer_to : RequestData → Rows → Side → Answer
-answer_to request rows side = place_answer (place_of side (path_of request.target)) request rows
+-- what a request of a side comes to at a book
+unfoldable pub answer_to : RequestData → Book → Side → Answer
+answer_to request book side = place_answer (place_of side (path_of request.target)) request book
 
 -- an answer that is a reply has bytes
 abbrev pub HasBytes : Answer → Type 0
 HasBytes (answer.Reply reply) = IsReply reply
+HasBytes (answer.Hold of i j) = Unit {0}
 HasBytes (answer.Edit import) = Unit {0}
 
 -- the import that an answer brings has edits whose fields are in the ranges of their columns
 abbrev pub BringsEdits : Answer → Type 0
 BringsEdits (answer.Reply reply) = Unit {0}
+BringsEdits (answer.Hold of i j) = Unit {0}
 BringsEdits (answer.Edit import) = All IsEdit import.edits

@@ -2,7 +2,16 @@ pub mod Reply
 pub mod Target
 pub mod Routes
 pub mod Replies
+pub mod Types
+pub mod Forms
+pub mod Edges
+pub mod Graphs
 pub mod Answers
 pub mod Turns
 pub mod Connections
 pub mod Steps
+pub mod Errors
+pub mod Asks
+pub mod Authority
+pub mod Opening
+pub mod Tips

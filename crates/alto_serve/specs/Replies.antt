@@ -48,6 +48,7 @@ bad_form row column = refusal 400 ((codes "column", whole column) ∷ (codes "ro
 
 -- why the body of an import doesn't read; want of memory has no reply of its own
 abbrev pub form_reply : FormFault → ReplyData
+form_reply form.Syntax = bad_form 0 0
 form_reply form.Empty = bad_form 0 0
 form_reply (form.BadRecord row) = bad_form row 0
 form_reply (form.BadColumn row column) = bad_form row column

@@ -14,7 +14,8 @@ use Rattle.alto_serve.specs.declared.route.Side.TheVariants as side
 
 -- the routes of applications
 abbrev pub public_routes : List (List ℕ × Place)
-public_routes = (codes "/maps/{resource}", place.Maps) ∷ []
+public_routes =
+    (codes "/maps/{resource}", place.Maps) ∷ (codes "/tips", place.Tips) ∷ (codes "/tips/{resource}/ug/{i}/{j}", place.Edge) ∷ []
 
 -- the routes of the operator
 abbrev pub operator_routes : List (List ℕ × Place)

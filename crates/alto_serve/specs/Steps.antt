@@ -11,7 +11,7 @@ use Rattle.alto_serve.specs.declared.end.End.TheVariants as end
 use Rattle.alto_serve.specs.Replies.{head_status}
 use Rattle.alto_serve.specs.Reply.{memory_reply}
 use Rattle.alto_serve.specs.Turns.{HasEffectOrNone}
-use Rattle.alto_serve.specs.Connections.{Setting, Replies, Serves, MayTakeEffect, IsNext, last_words, refusal_bytes, Writes}
+use Rattle.alto_serve.specs.Connections.{Setting, Replies, Serves, MayTakeEffect, IsNext, last_words, refusal_bytes}
 
 -- the next request is replied to, and the connection goes on behind it
 pub record GoesOn (setting : Setting) (rest : List ℕ) (left : Option (List ℕ)) (before : Book) (written : List ℕ) (after : Book) : Type 0 where

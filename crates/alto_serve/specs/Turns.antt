@@ -1,7 +1,7 @@
 -- What a request is told, and what becomes of the book.
 use Rattle.std.specs.Prelude.{◌≡◌, ◌⊎◌, ℕ, Option, Some, None, IfSome, Result}
 use Rattle.alto_book.specs.Acceptance.{accept}
-use Rattle.alto_book.specs.Book.{Book, rows_of}
+use Rattle.alto_book.specs.Book.{Book}
 use Rattle.alto_book.specs.Import.{Import}
 use Rattle.alto_book.specs.declared.command.Receipt.{Receipt}
 use Rattle.alto_book.specs.declared.fault.EditFault.{EditFault}
@@ -13,6 +13,7 @@ use Rattle.alto_serve.specs.declared.end.End.{End}
 use Rattle.alto_serve.specs.declared.end.End.TheVariants as end
 use Rattle.alto_serve.specs.declared.route.Side.{Side}
 use Rattle.alto_serve.specs.Answers.{answer_to}
+use Rattle.alto_serve.specs.Edges.{too_early}
 use Rattle.alto_serve.specs.Replies.{edit_reply}
 use Rattle.alto_serve.specs.Reply.{ReplyData}
 
@@ -21,15 +22,16 @@ pub record Turn : Type 0 where
   pub reply : ReplyData
   pub book : Book
 
--- the turn of an answer: an import is accepted or refused at the moment when it comes
+-- the turn of an answer: an awaited edge comes too early, and an import is accepted or refused at the moment when it comes
 abbrev pub turn_of : Answer → Book → ℕ → Turn
 turn_of (answer.Reply reply) book moment = record { reply = reply; book = book }
+turn_of (answer.Hold of i j) book moment = record { reply = too_early i; book = book }
 turn_of (answer.Edit import) book moment =
     record { reply = edit_reply (accept book import moment).answer; book = (accept book import moment).book }
 
 -- the turn of a request of a side, at the book and the moment when it comes
 abbrev pub turn : RequestData → Side → Book → ℕ → Turn
-turn request side book moment = turn_of (answer_to request (rows_of book) side) book moment
+turn request side book moment = turn_of (answer_to request book side) book moment
 
 -- an import that comes at this moment is answered so, and leaves this book
 pub record IsTold (before : Book) (import : Import) (moment : ℕ) (told : Result Receipt EditFault) (later : Book) : Type 0 where

@@ -2,7 +2,7 @@ ghost use Rattle.std.specs.Prelude.{◌≡◌, ◌==◌};
 ghost use Rattle.std.specs.List.{before_first};
 ghost use Rattle.std.specs.Str.{str_to_ascii_lowercase};
 ghost use Rattle.alto_rows.specs.Order.{same_name};
-ghost use Rattle.alto_serve.specs.Answers.{semicolon, media_type, has_type};
+ghost use Rattle.alto_serve.specs.Forms.{semicolon, media_type, has_type};
 
 use crate::bytes::{place_of, trim};
 use alto_http::Request;

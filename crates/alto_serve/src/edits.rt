@@ -2,18 +2,18 @@ ghost use Rattle.std.specs.Prelude.{◌≡◌, IfOk};
 ghost use Rattle.sha2.specs.Sha256.{sha256};
 ghost use Rattle.alto_http.specs.declared.request.Verb.TheVariants as verb;
 ghost use Rattle.alto_names.specs.Name.{named, is_import_byte};
-ghost use Rattle.edit_forms.specs.Csv.{csv_edits};
-ghost use Rattle.alto_serve.specs.Answers.{BringsEdits, import_of, import_under, edits_answer};
+ghost use Rattle.alto_serve.specs.Answers.{BringsEdits, HasBytes, import_of, import_under, edits_answer};
+ghost use Rattle.alto_serve.specs.Forms.{edits_in};
 ghost use Rattle.alto_serve.specs.Target.{segment};
 
-use crate::content::has_type;
+use crate::form::Form;
 use crate::outcome::Answer;
 use crate::replies::{bad_form, form_reply, status_alone, wrong_method};
 use crate::target::segment;
 use alto_desk::Command;
 use alto_http::{Request, Verb};
 use alto_names::{ImportId, NameFault};
-use edit_forms::{FormFault, read_csv};
+use edit_forms::FormFault;
 use sha2::{Digest, Sha256};
 use std::alloc::{AllocError, Global};
 
@@ -22,6 +22,7 @@ pub(crate) fn edits(alloc: Global, request: &Request, path: &[u8]) -> Result<Ans
     ensures answer { IfOk result (λ answer. answer
         ≡ edits_answer request.now.verb request.now.content_type (segment path.now 2) request.now.body) }
     ensures edits { IfOk result BringsEdits }
+    ensures has_bytes { IfOk result HasBytes }
 {
     match request.verb {
         Verb::Post => posted(alloc, request, path),
@@ -33,30 +34,33 @@ fn posted(alloc: Global, request: &Request, path: &[u8]) -> Result<Answer, Alloc
     ensures answer { IfOk result (λ answer. answer
         ≡ edits_answer verb.Post request.now.content_type (segment path.now 2) request.now.body) }
     ensures edits { IfOk result BringsEdits }
+    ensures has_bytes { IfOk result HasBytes }
 {
-    if !has_type(request, b"text/csv") {
+    let Some(form) = Form::of(request) else {
         return Ok(Answer::Reply(status_alone(alloc, 415)?));
-    }
+    };
     let id = segment(alloc, path, 2)?;
-    import_under(alloc, &id, &request.body)
+    import_under(alloc, &id, form, &request.body)
 }
 
-fn import_under(alloc: Global, id: &[u8], body: &[u8]) -> Result<Answer, AllocError>
-    ensures answer { IfOk result (λ answer. answer ≡ import_under (named is_import_byte 64 id.now) body.now) }
+fn import_under(alloc: Global, id: &[u8], form: Form, body: &[u8]) -> Result<Answer, AllocError>
+    ensures answer { IfOk result (λ answer. answer ≡ import_under (named is_import_byte 64 id.now) form body.now) }
     ensures edits { IfOk result BringsEdits }
+    ensures has_bytes { IfOk result HasBytes }
 {
     match ImportId::read(alloc, id) {
-        Ok(id) => import_of(alloc, id, body),
+        Ok(id) => import_of(alloc, id, form, body),
         Err(NameFault::Memory) => Err(AllocError),
         Err(_) => Ok(Answer::Reply(bad_form(alloc, 0, 0)?)),
     }
 }
 
-fn import_of(alloc: Global, id: ImportId, body: &[u8]) -> Result<Answer, AllocError>
-    ensures answer { IfOk result (λ answer. answer ≡ import_of id (sha256 body.now) (csv_edits body.now)) }
+fn import_of(alloc: Global, id: ImportId, form: Form, body: &[u8]) -> Result<Answer, AllocError>
+    ensures answer { IfOk result (λ answer. answer ≡ import_of id (sha256 body.now) (edits_in form body.now)) }
     ensures edits { IfOk result BringsEdits }
+    ensures has_bytes { IfOk result HasBytes }
 {
-    match read_csv(alloc, body) {
+    match form.read(alloc, body) {
         Ok(edits) => Ok(Answer::Edit(Command {
             id,
             digest: Sha256::digest(body),

@@ -2,18 +2,25 @@
 //!
 //! ```text
 //! Request ── Routes::place ──▶ Place ── answer ──▶ Answer ──┬── Reply ── reply_bytes ──▶ bytes
-//!                                         ▲                 └── Edit, an import
-//!                              Front, a version
+//!                                         ▲                 ├── Hold, an awaited edge
+//!                              Front, a version             └── Edit, an import
 //! ```
 #![tactic(auto)]
 
 mod answering;
+mod asks;
+mod authority;
 mod bytes;
 mod clock;
 mod content;
+mod edges;
 mod edits;
 mod end;
+mod errors;
+mod form;
+mod held;
 mod maps;
+mod opening;
 mod outcome;
 mod refuse;
 mod replies;
@@ -24,6 +31,8 @@ mod serve;
 mod target;
 #[cfg(test)]
 mod tests;
+mod tips;
+mod types;
 mod writing;
 
 pub use answering::answer;

@@ -10,14 +10,12 @@ use crate::outcome::Answer;
 use crate::replies::{document_reply, not_found, wrong_method};
 use crate::reply::Reply;
 use crate::target::segment;
+use crate::types::NETWORK_MAP;
 use alto_http::Verb;
 use alto_names::{NameFault, NetName};
 use alto_rows::{Key, RowStore};
 use net_docs::net_doc;
 use std::alloc::{AllocError, Global};
-
-/// The media type of a network map (RFC 7285, section 11.2.1.1).
-const NETWORK_MAP: &str = "application/alto-networkmap+json";
 
 /// What a request comes to whose path leads to `/maps/{resource}`.
 pub(crate) fn maps<R: RowStore>(

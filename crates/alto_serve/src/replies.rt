@@ -7,6 +7,7 @@ ghost use Rattle.json_tree.specs.Tree.{data_of};
 ghost use Rattle.alto_http.specs.declared.request.Verb.TheVariants as verb;
 ghost use Rattle.alto_book.specs.declared.fault.EditFault.TheVariants as edit_fault;
 ghost use Rattle.edit_forms.specs.declared.fault.FormFault.TheVariants as form_fault;
+ghost use Rattle.alto_serve.specs.Edges.{gone, too_early};
 ghost use Rattle.alto_serve.specs.Reply.{IsReply};
 ghost use Rattle.alto_serve.specs.Replies.{json_type, whole, document_reply, status_alone, not_found, wrong_method, bad_form, form_reply, receipt_reply, fault_reply, edit_reply, head_status};
 
@@ -86,11 +87,33 @@ pub(crate) fn form_reply(alloc: Global, fault: FormFault) -> Result<Reply, Alloc
     ensures has_bytes { IfOk result IsReply }
 {
     match fault {
-        FormFault::Empty => bad_form(alloc, 0, 0),
+        FormFault::Syntax | FormFault::Empty => bad_form(alloc, 0, 0),
         FormFault::BadRecord(row) => bad_form(alloc, row, 0),
         FormFault::BadColumn(row, column) => bad_form(alloc, row, column),
         FormFault::Memory => unreachable!(),
     }
+}
+
+/// The refusal of an edge from or to a number that is kept no more, with the first that is.
+pub(crate) fn gone(alloc: Global, first: u64) -> Result<Reply, AllocError>
+    ensures reply { IfOk result (λ reply. reply ≡ gone first) }
+    ensures has_bytes { IfOk result IsReply }
+{
+    let mut members = Members::new(alloc);
+    put_number(alloc, &mut members, "start-seq", first)?;
+    put_number(alloc, &mut members, "status", 410)?;
+    refusal(alloc, 410, members)
+}
+
+/// The refusal of an edge that leads past the last number, with that number.
+pub(crate) fn too_early(alloc: Global, last: u64) -> Result<Reply, AllocError>
+    ensures reply { IfOk result (λ reply. reply ≡ too_early last) }
+    ensures has_bytes { IfOk result IsReply }
+{
+    let mut members = Members::new(alloc);
+    put_number(alloc, &mut members, "end-seq", last)?;
+    put_number(alloc, &mut members, "status", 425)?;
+    refusal(alloc, 425, members)
 }
 
 /// What an import is answered.

@@ -14,6 +14,10 @@ pub enum Side {
 pub enum Place {
     /// `/maps/{resource}`: the document of a resource.
     Maps,
+    /// `/tips`: the view of a resource.
+    Tips,
+    /// `/tips/{resource}/ug/{i}/{j}`: an edge of a resource's updates graph.
+    Edge,
     /// `/edits/{id}`: an import.
     Edits,
 }

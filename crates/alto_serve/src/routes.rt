@@ -12,6 +12,10 @@ use std::str;
 
 const MAPS: &str = "/maps/{resource}";
 
+const TIPS: &str = "/tips";
+
+const EDGE: &str = "/tips/{resource}/ug/{i}/{j}";
+
 const EDITS: &str = "/edits/{id}";
 
 /// The routes of a side, made once for a connection. A contract sees the side.
@@ -71,6 +75,8 @@ fn public_router(alloc: Global) -> Result<Router<Place>, AllocError>
 {
     let mut router = Router::new(alloc);
     add(&mut router, MAPS, Place::Maps)?;
+    add(&mut router, TIPS, Place::Tips)?;
+    add(&mut router, EDGE, Place::Edge)?;
     Ok(router)
 }
 

@@ -1,7 +1,7 @@
 ghost use Rattle.std.specs.Prelude.{◌≡◌, ◌≢◌, ℕ, false, None, Err, IfOk, IfSome, OnErr, All};
 ghost use Rattle.alto_http.specs.Link.{followed_by};
 ghost use Rattle.alto_rules.specs.Rules.{IsEdit};
-ghost use Rattle.alto_book.specs.Book.{Extends, rows_of};
+ghost use Rattle.alto_book.specs.Book.{Extends};
 ghost use Rattle.alto_book.specs.declared.fault.EditFault.TheVariants as fault;
 ghost use Rattle.alto_serve.specs.Answers.{answer_to, BringsEdits, HasBytes};
 ghost use Rattle.alto_serve.specs.Connections.{setting_of, Replies, Ended, Writes};
@@ -14,7 +14,7 @@ use crate::clock::Clock;
 use crate::end::End;
 use crate::outcome::Answer;
 use crate::refuse::{out_of_memory, refuse};
-use crate::replies::edit_reply;
+use crate::replies::{edit_reply, too_early};
 use crate::reply::Reply;
 use crate::route::Side;
 use crate::routes::Routes;
@@ -150,6 +150,7 @@ fn take_turn<R: RowStore, C: Clock>(
 {
     match look(alloc, routes, desk, request)? {
         Answer::Reply(reply) => Ok(reply),
+        Answer::Hold { i, .. } => too_early(alloc, i),
         Answer::Edit(command) => {
             let outcome = edit(alloc, desk, clock, command)?;
             edit_reply(alloc, outcome)
@@ -164,7 +165,7 @@ fn look<R: RowStore>(
     desk: &Desk<R>,
     request: &Request,
 ) -> Result<Answer, AllocError>
-    ensures answer { IfOk result (λ answer. answer ≡ answer_to request.now (rows_of desk.now) routes.now) }
+    ensures answer { IfOk result (λ answer. answer ≡ answer_to request.now desk.now routes.now) }
     ensures edits { IfOk result BringsEdits }
     ensures replies { IfOk result HasBytes }
 {

@@ -1,3 +1,6 @@
+mod asks;
+mod views;
+
 use crate::content::has_type;
 use crate::edits::edits;
 use crate::replies::{
@@ -88,6 +91,8 @@ fn paths_lead_where_the_side_has_a_route(rt: HostRuntime) -> Result<(), Fail> {
     let both = Routes::new(rt.alloc(), Side::Both)?;
     let maps = Some(Place::Maps);
     let edits = Some(Place::Edits);
+    let tips = Some(Place::Tips);
+    let edge = Some(Place::Edge);
     let cases = [
         (b"/maps/metro?x=1".as_slice(), maps, None),
         (b"http://h/maps/metro".as_slice(), maps, None),
@@ -100,6 +105,12 @@ fn paths_lead_where_the_side_has_a_route(rt: HostRuntime) -> Result<(), Fail> {
         (b"maps/metro".as_slice(), None, None),
         (b"/maps/\xff".as_slice(), None, None),
         (b"/edits/i1".as_slice(), None, edits),
+        (b"/tips".as_slice(), tips, None),
+        (b"/tips/".as_slice(), None, None),
+        (b"/tips/metro".as_slice(), None, None),
+        (b"/tips/metro/ug/0/1".as_slice(), edge, None),
+        (b"/tips/metro/ug/0/1/".as_slice(), None, None),
+        (b"/tips/metro/up/0/1".as_slice(), None, None),
     ];
     for (target, at_public, at_operator) in cases {
         let path = path_of(target);
@@ -170,13 +181,13 @@ fn an_import_brings_its_id_and_digest(rt: HostRuntime) -> Result<(), Fail> {
             assert_eq!(rt; &command.digest[..4], [0x24, 0xe8, 0x52, 0x1a].as_slice());
             assert_eq!(rt; command.edits.len(), 1);
         }
-        Answer::Reply(_) => assert!(rt; false, "a reply"),
+        _ => assert!(rt; false, "no import"),
     }
     match edits(rt.alloc(), &request, b"/edits/%20")? {
-        Answer::Edit(_) => assert!(rt; false, "an import"),
         Answer::Reply(reply) => {
             expect_body(&rt, &reply, 400, b"{\"column\":0,\"row\":0,\"status\":400}");
         }
+        _ => assert!(rt; false, "no reply"),
     }
     Ok(())
 }

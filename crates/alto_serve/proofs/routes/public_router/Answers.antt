@@ -6,5 +6,13 @@ pub add-requires : goal.add-requires
 unfolding matchit_on_literals
 add-requires c = rw c.new-router.ensures (search rules)
 
+pub add-requires-2 : goal.add-requires-2
+unfolding matchit_on_literals
+add-requires-2 c = rw (c.in_ok-add.ensures, c.new-router.ensures) (search rules)
+
+pub add-requires-3 : goal.add-requires-3
+unfolding matchit_on_literals
+add-requires-3 c = rw (c.in_ok-add-2.ensures, c.in_ok-add.ensures, c.new-router.ensures) (search rules)
+
 pub returns : goal.returns
-returns c = rw c.new-router.ensures at c.in_ok-add.ensures
+returns c = rw (c.in_ok-add-2.ensures, c.in_ok-add.ensures, c.new-router.ensures) at c.in_ok-add-3.ensures

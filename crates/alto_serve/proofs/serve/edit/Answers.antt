@@ -1,4 +1,4 @@
-use Rattle.std.proofs.Common.{◌≡◌, ◌≢◌, refl}
+use Rattle.std.proofs.Common.{◌≢◌}
 use Rattle.alto_book.specs.declared.fault.EditFault.TheVariants as fault
 use Rattle.alto_serve.proofs.TurnLemmas.{told_refused}
 use Rattle.alto_serve.proofs.serve.edit.Goals as goal
