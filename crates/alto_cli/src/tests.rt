@@ -1,5 +1,7 @@
 mod edges;
+mod heads;
 mod imports;
+mod ordinary_use;
 mod views;
 
 use crate::run::run;

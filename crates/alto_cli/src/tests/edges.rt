@@ -31,12 +31,12 @@ pub(crate) fn receipts(alloc: Global, number: usize) -> Result<String, AllocErro
     Ok(output)
 }
 
-fn get(alloc: Global, path: &str) -> Result<String, AllocError> {
+pub(crate) fn get(alloc: Global, path: &str) -> Result<String, AllocError> {
     format!(in alloc; "GET {path} HTTP/1.1\r\n\r\n")
 }
 
 /// The reply 200 with a document or a patch.
-fn document(alloc: Global, media_type: &str, body: &str) -> Result<String, AllocError> {
+pub(crate) fn document(alloc: Global, media_type: &str, body: &str) -> Result<String, AllocError> {
     let length = body.len();
     format!(in alloc;
         "HTTP/1.1 200 OK\r\nContent-Type: application/{media_type}+json\r\nContent-Length: {length}\r\n\r\n{body}"

@@ -16,7 +16,7 @@ fn opening(alloc: Global, fields: &str, body: &str) -> Result<String, AllocError
 }
 
 /// A POST of `/tips` with the right content type, a Host field of this authority, and this body.
-fn opening_at(alloc: Global, authority: &str, body: &str) -> Result<String, AllocError> {
+pub(crate) fn opening_at(alloc: Global, authority: &str, body: &str) -> Result<String, AllocError> {
     let fields = format!(in alloc;
         "Host: {authority}\r\nContent-Type: application/alto-tipsparams+json\r\n"
     )?;
@@ -38,10 +38,17 @@ fn typed(alloc: Global, status: &str, media_type: &str, body: &str) -> Result<St
     )
 }
 
-/// A view of metro, at this authority, with these members.
-fn view(alloc: Global, authority: &str, i: u64, j: u64, first: u64) -> Result<String, AllocError> {
+/// A view of metro, at this authority, with this first edge, and these as the first and the last number that are kept.
+pub(crate) fn view(
+    alloc: Global,
+    authority: &str,
+    edge: (u64, u64),
+    first: u64,
+    last: u64,
+) -> Result<String, AllocError> {
+    let (i, j) = edge;
     let body = format!(in alloc;
-        "{{\"tips-view-summary\":{{\"updates-graph-summary\":{{\"end-seq\":3,\"start-edge-rec\":{{\"seq-i\":{i},\"seq-j\":{j}}},\"start-seq\":{first}}}}},\"tips-view-uri\":\"http://{authority}/tips/metro\"}}"
+        "{{\"tips-view-summary\":{{\"updates-graph-summary\":{{\"end-seq\":{last},\"start-edge-rec\":{{\"seq-i\":{i},\"seq-j\":{j}}},\"start-seq\":{first}}}}},\"tips-view-uri\":\"http://{authority}/tips/metro\"}}"
     )?;
     typed(alloc, "200 OK", "alto-tips", body.as_str())
 }
@@ -117,7 +124,7 @@ fn a_view_tells_the_edge_that_follows(rt: HostRuntime) -> Result<(), Fail> {
         ),
     ] {
         let request = opening_at(alloc, authority, body)?;
-        let view = view(alloc, told, i, j, 1)?;
+        let view = view(alloc, told, (i, j), 1, 3)?;
         expect_answer(&rt, alloc, request.as_str(), view.as_str())?;
     }
     Ok(())
@@ -133,7 +140,7 @@ fn a_tag_that_is_kept_no_more_holds_nothing(rt: HostRuntime) -> Result<(), Fail>
         let mut desk = Desk::<PlainRows>::start(alloc, Epoch::read(alloc, b"e1")?, 2)?;
         serve_conn(alloc, &mut desk, &mut link, &FixedClock(100), Side::Both);
         let receipts = receipts(alloc, 3)?;
-        let view = view(alloc, "h", i, j, 2)?;
+        let view = view(alloc, "h", (i, j), 2, 3)?;
         let output = format!(in alloc; "{receipts}{view}")?;
         assert!(rt; link.output() == output.as_bytes(), "{tag}");
     }
@@ -184,7 +191,7 @@ fn the_first_fault_of_an_ask_is_told(rt: HostRuntime) -> Result<(), Fail> {
 fn an_ask_has_its_method_and_its_type(rt: HostRuntime) -> Result<(), Fail> {
     let alloc = rt.alloc();
     let body = "{\"resource-id\":\"metro\",\"tag\":\"e1-2\"}";
-    let opened = view(alloc, "localhost", 2, 3, 1)?;
+    let opened = view(alloc, "localhost", (2, 3), 1, 3)?;
     let fields = "Content-Type: application/alto-tipsparams+json; a=b\r\n";
     expect_answer(
         &rt,
