@@ -1,20 +1,29 @@
-ghost use Rattle.std.specs.Prelude.{◌≡◌, ◌≢◌, ◌↔◌, IsTrue, IfOk, IfSome, codes};
+ghost use Rattle.std.specs.Prelude.{◌≡◌, ◌≢◌, None, IfOk, IfSome, codes};
 ghost use Rattle.alto_book.specs.Book.{opening_book};
-ghost use Rattle.alto_serve.specs.Connections.{Writes};
+ghost use Rattle.alto_serve.specs.Steps.{Writes};
 ghost use Rattle.alto_cli.specs.Runs.{Pipes, SaysWords, words_fault};
-ghost use Rattle.alto_cli.specs.Words.{IsPipe};
+ghost use Rattle.alto_cli.specs.Words.{turns_in, turns_of};
 ghost use Rattle.alto_cli.specs.Status.{reads_at, writes_at, status_of};
 
 use alto_desk::Desk;
 use alto_http::{Link, write_all};
 use alto_names::{Epoch, NameFault};
 use alto_rows::PlainRows;
-use alto_serve::{Clock, End, Side, serve_conn};
+use alto_serve::{Clock, End, Side, Solo, edge_number, serve_conn};
 use json_tree::Name;
 use std::alloc::{AllocError, Global};
 
 /// The words that open a store's connection on the console.
 const PIPE: &str = "pipe";
+
+/// The word before the number of turns.
+const TURNS: &str = "--turns";
+
+/// How often a connection waits for an awaited edge, where no word says it.
+const USUAL_TURNS: u32 = 30;
+
+/// The most turns that a word may say.
+const MOST_TURNS: u64 = 1_000;
 
 /// What the program prints where its words are outside the grammar.
 const WORDS_FAULT: &[u8] = b"words outside the grammar\n";
@@ -29,32 +38,45 @@ const WINDOW: u32 = 8;
 /// of the console failed, 14 where the input ended inside a request, 15 where the console brought as many requests as a
 /// connection may.
 ///
-/// The words are `pipe STORE`. STORE is read and not used yet: the book starts in memory, and ends with the run.
+/// The words are `pipe STORE` or `pipe STORE --turns T`, T being a number to 1,000 without a leading zero: how often an awaited
+/// edge is waited for, 30 unless given. STORE is read and not used yet: the book starts in memory, and ends with the run.
 pub fn run<L: Link, C: Clock>(alloc: Global, words: &[Name], console: &mut L, clock: &C) -> u8
-    ensures faulty { result ≡ 2 → ¬ (IsPipe words.now) }
-    ensures said { ¬ (IsPipe words.now) → Writes (SaysWords result) (L.out console.old) (L.out console.new) }
+    ensures faulty { result ≡ 2 → turns_of words.now ≡ None }
+    ensures said { turns_of words.now ≡ None → Writes (SaysWords result) (L.out console.old) (L.out console.new) }
 
     // Where the console tells its bytes, the status and the output are those of serving it from a new book.
-    ensures served { IsPipe words.now → IfSome (L.left console.old) (λ bytes. Writes
-        (Pipes result (C.tells clock.now) bytes (L.left console.new)) (L.out console.old) (L.out console.new)) }
+    ensures served { IfSome (turns_of words.now) (λ turns. IfSome (L.left console.old) (λ bytes. Writes
+        (Pipes result (C.tells clock.now) turns bytes (L.left console.new)) (L.out console.old) (L.out console.new))) }
 
     ensures reads { L.failed_reads console.new ≡ reads_at result (L.failed_reads console.old) }
     ensures writes { L.failed_writes console.new ≡ writes_at result (L.failed_writes console.old) }
 {
-    if is_pipe(words) {
-        pipe(alloc, console, clock)
-    } else {
-        print_words_fault(console)
+    match turns_of(words) {
+        Some(turns) => pipe(alloc, console, clock, turns),
+        None => print_words_fault(console),
     }
 }
 
-/// Whether the words are `pipe` and one more.
-fn is_pipe(words: &[Name]) -> bool
-    ensures { IsTrue result ↔ IsPipe words.now }
+/// The turns of the words, if they are of the grammar.
+fn turns_of(words: &[Name]) -> Option<u32>
+    ensures { result ≡ turns_of words.now }
 {
     match words {
-        [command, _] => command.as_str() == PIPE,
-        _ => false,
+        [command, _] if command.as_str() == PIPE => Some(USUAL_TURNS),
+        [command, _, option, turns] if command.as_str() == PIPE && option.as_str() == TURNS => {
+            turns_in(turns.as_str())
+        }
+        _ => None,
+    }
+}
+
+/// The number of turns that a word writes.
+fn turns_in(word: &str) -> Option<u32>
+    ensures { result ≡ turns_in word.now }
+{
+    match edge_number(word.as_bytes()) {
+        Some(turns) if turns <= MOST_TURNS => Some(turns as u32),
+        _ => None,
     }
 }
 
@@ -71,17 +93,18 @@ fn print_words_fault<L: Link>(console: &mut L) -> u8
 }
 
 /// Serves the console over a book in memory.
-fn pipe<L: Link, C: Clock>(alloc: Global, console: &mut L, clock: &C) -> u8
+fn pipe<L: Link, C: Clock>(alloc: Global, console: &mut L, clock: &C, turns: u32) -> u8
     ensures status { result ≢ 2 }
     ensures served { IfSome (L.left console.old) (λ bytes. Writes
-        (Pipes result (C.tells clock.now) bytes (L.left console.new)) (L.out console.old) (L.out console.new)) }
+        (Pipes result (C.tells clock.now) turns bytes (L.left console.new)) (L.out console.old) (L.out console.new)) }
     ensures reads { L.failed_reads console.new ≡ reads_at result (L.failed_reads console.old) }
     ensures writes { L.failed_writes console.new ≡ writes_at result (L.failed_writes console.old) }
 {
-    let Ok(mut desk) = new_desk(alloc) else {
+    let Ok(desk) = new_desk(alloc) else {
         return 1;
     };
-    status_of(serve_conn(alloc, &mut desk, console, clock, Side::Both))
+    let mut office = Solo::new(desk);
+    status_of(serve_conn(alloc, &mut office, console, clock, Side::Both, turns))
 }
 
 /// A new book in memory.

@@ -24,7 +24,7 @@ const METRO: &str =
 const METRO_EAST: &str =
     "{\"meta\":{\"vtag\":{\"resource-id\":\"metro\",\"tag\":\"e1-2\"}},\"network-map\":{\"east\":{}}}";
 
-fn words(alloc: Global, texts: &[&str]) -> Result<Vec<Name>, AllocError> {
+pub(crate) fn words(alloc: Global, texts: &[&str]) -> Result<Vec<Name>, AllocError> {
     let mut words = Vec::new(alloc);
     for text in texts {
         words.push(Name::from_str(alloc, text)?)?;
@@ -226,16 +226,45 @@ fn faults_of_the_console(rt: HostRuntime) -> Result<(), Fail> {
     Ok(())
 }
 
+/// The status for these words over no input, and whether they were taken.
+fn taken(alloc: Global, texts: &[&str]) -> Result<(u8, bool), AllocError> {
+    let words = words(alloc, texts)?;
+    let mut link = MemLink::new(alloc, b"", 100)?;
+    let status = run(alloc, &words, &mut link, &FixedClock(100));
+    Ok((status, link.output().is_empty()))
+}
+
 #[test]
 fn faulty_words(rt: HostRuntime) -> Result<(), Fail> {
     let alloc = rt.alloc();
     let none: [&str; 0] = [];
-    let all: [&[&str]; 4] = [&none, &["pipe"], &["pipe", "x", "y"], &["pip", "x"]];
+    let all: [&[&str]; 9] = [
+        &none,
+        &["pipe"],
+        &["pipe", "x", "y"],
+        &["pip", "x"],
+        &["pipe", "x", "--turns"],
+        &["pipe", "x", "--turn", "3"],
+        &["pipe", "x", "--turns", "03"],
+        &["pipe", "x", "--turns", "1001"],
+        &["pipe", "x", "--turns", ""],
+    ];
     for texts in all {
         let words = words(alloc, texts)?;
         let mut link = MemLink::new(alloc, b"", 100)?;
         assert_eq!(rt; run(alloc, &words, &mut link, &FixedClock(100)), 2);
         assert!(rt; link.output() == "words outside the grammar\n".as_bytes());
+    }
+    Ok(())
+}
+
+#[test]
+fn words_that_are_taken(rt: HostRuntime) -> Result<(), Fail> {
+    let alloc = rt.alloc();
+    for turns in ["0", "3", "1000"] {
+        let (status, is_quiet) = taken(alloc, &["pipe", "x", "--turns", turns])?;
+        assert_eq!(rt; status, 0, "{turns}");
+        assert!(rt; is_quiet, "{turns}");
     }
     Ok(())
 }

@@ -1,29 +1,32 @@
 -- A connection's requests one after another, and its end.
-use Rattle.std.proofs.Common.{◌≡◌, ◌≢◌, ℕ, ◌+◌, ◌<◌, true, false, List, [], ◌∷◌, ◌++◌, length, Option, Some, None, IfSome, refl, sym, ap, subst, ◌∙◌, inl, inr, append_assoc, append-nil, length-append, arith}
+use Rattle.std.proofs.Common.{◌≡◌, ◌≢◌, ℕ, ◌+◌, ◌<◌, true, false, List, [], ◌∷◌, ◌++◌, length, Option, Some, None, IfSome, refl, sym, ap, subst, ◌∙◌, inl, inr, length-append, arith}
 use Rattle.alto_book.specs.Book.{Book}
-use Rattle.alto_http.specs.Link.{extended, followed_by}
+use Rattle.alto_http.specs.Link.{followed_by}
 use Rattle.alto_http.specs.Request.{RequestData}
 use Rattle.alto_http.specs.Splits.{Begins, IsUnfinished, Ending, clean, closed, cut, refused, Ends, Splits}
 use Rattle.alto_http.proofs.Fronts.{begin_needs_no_more}
 use Rattle.alto_serve.specs.declared.end.End.{End}
 use Rattle.alto_serve.specs.declared.end.End.TheVariants as end
-use Rattle.alto_serve.specs.Connections.{Setting, Replies, AnswersAll, LeadsTo, Serves, ServesAll, IsWithin, Ended, Writes, last_words, most_requests}
+use Rattle.alto_serve.specs.Connections.{AnswersAll, LeadsTo, Serves, ServesAll, IsWithin, Ended, last_words, most_requests}
 use Rattle.alto_serve.specs.Steps.{GoesOn, Finishes, HasServed}
+use Rattle.alto_serve.specs.Told.{Told, Account, Brings, account_after, both, nothing, only_written}
+use Rattle.alto_serve.specs.Turns.{Setting, IsBegun, TakesTurn}
+use Rattle.alto_serve.proofs.ToldLemmas.{account_more, account_none, both_all, both_nothing, nothing_both}
 
 -- one request more is replied to
-answers_more : (setting : Setting) (before : Book) (requests : List RequestData) (written : List ℕ) (between : Book)
-    (request : RequestData) (last : List ℕ) (after : Book)
-    → AnswersAll setting before requests written between → Replies setting request between last after
-    → AnswersAll setting before (requests ++ request ∷ []) (written ++ last) after
-answers_more setting before [] written between request last after (none, same) replied =
-    let P : Book → Type 0 = λ book. Replies setting request book last after in
-    (last, after, [], subst P same replied, ap (λ w. w ++ last) none ∙ sym (append-nil last), (refl, refl))
-answers_more setting before (first ∷ requests) written between request last after (head, middle, more, replies, whole, rest) replied = (
+answers_more : (setting : Setting) (before : Book) (requests : List RequestData) (told : Told) (between : Book)
+    (request : RequestData) (last : Told) (after : Book)
+    → AnswersAll setting before requests told between → TakesTurn setting request between last after
+    → AnswersAll setting before (requests ++ request ∷ []) (both told last) after
+answers_more setting before [] told between request last after (none, same) replied =
+    let P : Book → Type 0 = λ book. TakesTurn setting request book last after in
+    (last, after, nothing, subst P same replied, ap (λ t. both t last) none ∙ nothing_both last ∙ sym (both_nothing last), (refl, refl))
+answers_more setting before (first ∷ requests) told between request last after (head, middle, more, replies, whole, rest) replied = (
   head,
   middle,
-  more ++ last,
+  both more last,
   replies,
-  ap (λ w. w ++ last) whole ∙ append_assoc head more last,
+  ap (λ t. both t last) whole ∙ sym (both_all head more last),
   answers_more setting middle requests more between request last after rest replied,
 )
 
@@ -65,55 +68,46 @@ leads_front bytes (first ∷ requests) given more (next, begins, stays, leads) =
 
 -- ---- going on
 
--- nothing is out yet
-out_none : (out : Option (List ℕ)) → out ≡ extended out []
-out_none None = refl
-out_none (Some out) = ap Some (sym (append-nil out))
-
-out_more : (out : Option (List ℕ)) (a b : List ℕ) → extended (extended out a) b ≡ extended out (a ++ b)
-out_more None a b = refl
-out_more (Some out) a b = ap Some (append_assoc out a b)
-
 -- at first no request was answered
-pub served_none : (setting : Setting) (told out : Option (List ℕ)) (ahead : List ℕ) (before : Book) → ahead ≡ []
-    → IfSome told (λ bytes. HasServed setting bytes before 0 (followed_by ahead told) out out before)
-served_none setting None out ahead before none = tt
-served_none setting (Some bytes) out ahead before none = record {
+pub served_none : (setting : Setting) (given : Option (List ℕ)) (first : Account) (ahead : List ℕ) (before : Book) → ahead ≡ []
+    → IfSome given (λ bytes. HasServed setting bytes before 0 (followed_by ahead given) first first before)
+served_none setting None first ahead before none = tt
+served_none setting (Some bytes) first ahead before none = record {
   rest = bytes;
-  written = [];
+  told = nothing;
   leaves = ap (λ xs. Some (xs ++ bytes)) none;
-  told = out_none out;
+  counted = account_none first;
   serves = record { requests = []; counted = refl; leads = refl; answered = (refl, refl) };
 }
 
-more_now : (setting : Setting) (bytes : List ℕ) (before : Book) (count : ℕ) (left left' out mid later : Option (List ℕ)) (between after : Book)
-    → HasServed setting bytes before count left out mid between
-    → IfSome left (λ rest. Writes (λ written. GoesOn setting rest left' between written after) mid later)
-    → HasServed setting bytes before (count + 1) left' out later after
-more_now setting bytes before count left left' out mid later between after served next =
+more_now : (setting : Setting) (bytes : List ℕ) (before : Book) (count : ℕ) (left left' : Option (List ℕ)) (first mid later : Account) (between after : Book)
+    → HasServed setting bytes before count left first mid between
+    → IfSome left (λ rest. Brings (λ told. GoesOn setting rest left' between told after) mid later)
+    → HasServed setting bytes before (count + 1) left' first later after
+more_now setting bytes before count left left' first mid later between after served next =
     let step = rw served.leaves at next in
     let goes = step.2 in
     record {
       rest = goes.behind;
-      written = served.written ++ step.0;
+      told = both served.told step.0;
       leaves = goes.leaves;
-      told = step.1 ∙ ap (λ o. extended o step.0) served.told ∙ out_more out served.written step.0;
+      counted = step.1 ∙ ap (λ a. account_after a step.0) served.counted ∙ account_more first served.told step.0;
       serves = record {
         requests = served.serves.requests ++ goes.request ∷ [];
         counted = length-append served.serves.requests (goes.request ∷ []) ∙ ap (λ n. n + 1) served.serves.counted;
         leads = leads_more bytes served.serves.requests served.rest goes.request goes.behind served.serves.leads goes.begins goes.stays;
-        answered = answers_more setting before served.serves.requests served.written between goes.request step.0 after served.serves.answered goes.replied;
+        answered = answers_more setting before served.serves.requests served.told between goes.request step.0 after served.serves.answered goes.replied;
       };
     }
 
 -- then one more
-pub served_more : (setting : Setting) (told : Option (List ℕ)) (before : Book) (count : ℕ) (left left' out mid later : Option (List ℕ)) (between after : Book)
-    → IfSome told (λ bytes. HasServed setting bytes before count left out mid between)
-    → IfSome left (λ rest. Writes (λ written. GoesOn setting rest left' between written after) mid later)
-    → IfSome told (λ bytes. HasServed setting bytes before (count + 1) left' out later after)
-served_more setting None before count left left' out mid later between after served next = tt
-served_more setting (Some bytes) before count left left' out mid later between after served next =
-    more_now setting bytes before count left left' out mid later between after served next
+pub served_more : (setting : Setting) (given : Option (List ℕ)) (before : Book) (count : ℕ) (left left' : Option (List ℕ)) (first mid later : Account) (between after : Book)
+    → IfSome given (λ bytes. HasServed setting bytes before count left first mid between)
+    → IfSome left (λ rest. Brings (λ told. GoesOn setting rest left' between told after) mid later)
+    → IfSome given (λ bytes. HasServed setting bytes before (count + 1) left' first later after)
+served_more setting None before count left left' first mid later between after served next = tt
+served_more setting (Some bytes) before count left left' first mid later between after served next =
+    more_now setting bytes before count left left' first mid later between after served next
 
 -- ---- ending
 
@@ -123,67 +117,67 @@ within_all closed n lt = omega arith
 within_all cut n lt = lt
 within_all (refused fault) n lt = lt
 
-ends_all : (setting : Setting) (bytes : List ℕ) (before : Book) (count : ℕ) (rest replies written : List ℕ) (between after : Book) (ending : Ending)
+ends_all : (setting : Setting) (bytes : List ℕ) (before : Book) (count : ℕ) (rest : List ℕ) (replies told : Told) (between after : Book) (ending : Ending)
     → Serves setting bytes before count rest replies between → count < most_requests → Ends rest ending
-    → written ≡ last_words ending → after ≡ between → ServesAll setting bytes ending before (replies ++ written) after
-ends_all setting bytes before count rest replies written between after ending serves few ends words same = record {
+    → told ≡ only_written (last_words ending) → after ≡ between → ServesAll setting bytes ending before (both replies told) after
+ends_all setting bytes before count rest replies told between after ending serves few ends words same = record {
   requests = serves.requests;
   replies = replies;
   splits = leads_ends bytes serves.requests rest ending serves.leads ends;
   within = within_all ending (length serves.requests) (omega (arith, serves.counted));
   answered = let P : Book → Type 0 = λ book. AnswersAll setting before serves.requests replies book in subst P (sym same) serves.answered;
-  told = ap (λ w. replies ++ w) words;
+  ends = ap (λ t. both replies t) words;
 }
 
-closes_all : (setting : Setting) (bytes : List ℕ) (before : Book) (count : ℕ) (rest replies written : List ℕ) (between after : Book)
+closes_all : (setting : Setting) (bytes : List ℕ) (before : Book) (count : ℕ) (rest : List ℕ) (replies told : Told) (between after : Book)
     (request : RequestData) (behind : List ℕ)
     → Serves setting bytes before count rest replies between → count < most_requests → Begins rest request behind
-    → request.close ≡ true → Replies setting request between written after
-    → ServesAll setting bytes closed before (replies ++ written) after
-closes_all setting bytes before count rest replies written between after request behind serves few begins closes replied = record {
+    → request.close ≡ true → TakesTurn setting request between told after
+    → ServesAll setting bytes closed before (both replies told) after
+closes_all setting bytes before count rest replies told between after request behind serves few begins closes replied = record {
   requests = serves.requests ++ request ∷ [];
-  replies = replies ++ written;
+  replies = both replies told;
   splits = leads_closes bytes serves.requests rest request behind serves.leads begins closes;
   within = omega (arith, length-append serves.requests (request ∷ []), serves.counted);
-  answered = answers_more setting before serves.requests replies between request written after serves.answered replied;
-  told = sym (append-nil (replies ++ written));
+  answered = answers_more setting before serves.requests replies between request told after serves.answered replied;
+  ends = sym (both_nothing (both replies told));
 }
 
 closed_not_cut : closed ≢ cut
 closed_not_cut e = cc
 
 -- the bytes that a link gave before it failed hold the same requests, and no whole one more
-fails_all : (setting : Setting) (bytes : List ℕ) (left : Option (List ℕ)) (before : Book) (count : ℕ) (rest replies written given : List ℕ) (between after : Book)
+fails_all : (setting : Setting) (bytes : List ℕ) (left : Option (List ℕ)) (before : Book) (count : ℕ) (rest : List ℕ) (replies told : Told) (given : List ℕ) (between after : Book)
     → Serves setting bytes before count rest replies between → count < most_requests → Some rest ≡ followed_by given left → IsUnfinished given
-    → written ≡ [] → after ≡ between → Ended end.ReadFault setting bytes left before (replies ++ written) after
-fails_all setting bytes None before count rest replies written given between after serves few came unfinished words same = cc
-fails_all setting bytes (Some left) before count rest replies written given between after serves few came unfinished words same =
+    → told ≡ nothing → after ≡ between → Ended end.ReadFault setting bytes left before (both replies told) after
+fails_all setting bytes None before count rest replies told given between after serves few came unfinished words same = cc
+fails_all setting bytes (Some left) before count rest replies told given between after serves few came unfinished words same =
     let is : rest ≡ given ++ left = cc in
     let P : List ℕ → Type 0 = λ xs. LeadsTo bytes serves.requests xs in
     let front = leads_front bytes serves.requests given left (subst P is serves.leads) in
     let serves_front : Serves setting front.0 before count given replies between =
     record { requests = serves.requests; counted = serves.counted; leads = front.2; answered = serves.answered } in
     let all = λ (ending : Ending) (ends : Ends given ending) (none : last_words ending ≡ []).
-    ends_all setting front.0 before count given replies written between after ending serves_front few ends (words ∙ sym none) same in
+    ends_all setting front.0 before count given replies told between after ending serves_front few ends (words ∙ ap (λ w. only_written w) (sym none)) same in
     elim unfinished [
       | inl blank ↦ (front.0, clean, ap Some front.1, inl refl, all clean blank refl)
       | inr inside ↦ (front.0, cut, ap Some front.1, inr refl, all cut inside refl)
     ]
 
 ends_now : (ended : End) (setting : Setting) (bytes : List ℕ) (left : Option (List ℕ)) (before : Book) (count : ℕ)
-    (rest replies written : List ℕ) (between after : Book)
+    (rest : List ℕ) (replies told : Told) (between after : Book)
     → Serves setting bytes before count rest replies between → count < most_requests
-    → Finishes ended setting rest left between written after → Ended ended setting bytes left before (replies ++ written) after
-ends_now end.Closed setting bytes left before count rest replies written between after serves few (inl (ending, ends, not_cut, words, same)) =
-    (ending, not_cut, ends_all setting bytes before count rest replies written between after ending serves few ends words same)
-ends_now end.Closed setting bytes left before count rest replies written between after serves few (inr (request, behind, begins, closes, replied)) =
-    (closed, closed_not_cut, closes_all setting bytes before count rest replies written between after request behind serves few begins closes replied)
-ends_now end.Cut setting bytes left before count rest replies written between after serves few (ends, words, same) =
-    ends_all setting bytes before count rest replies written between after cut serves few ends words same
-ends_now end.Limit setting bytes left before count rest replies written between after serves few none = absurd none
-ends_now end.ReadFault setting bytes left before count rest replies written between after serves few (given, came, unfinished, words, same) =
-    fails_all setting bytes left before count rest replies written given between after serves few came unfinished words same
-ends_now end.WriteFault setting bytes left before count rest replies written between after serves few (whole, size, next, cut_off) = record {
+    → Finishes ended setting rest left between told after → Ended ended setting bytes left before (both replies told) after
+ends_now end.Closed setting bytes left before count rest replies told between after serves few (inl (ending, ends, not_cut, words, same)) =
+    (ending, not_cut, ends_all setting bytes before count rest replies told between after ending serves few ends words same)
+ends_now end.Closed setting bytes left before count rest replies told between after serves few (inr (request, behind, begins, closes, replied)) =
+    (closed, closed_not_cut, closes_all setting bytes before count rest replies told between after request behind serves few begins closes replied)
+ends_now end.Cut setting bytes left before count rest replies told between after serves few (ends, words, same) =
+    ends_all setting bytes before count rest replies told between after cut serves few ends words same
+ends_now end.Limit setting bytes left before count rest replies told between after serves few none = absurd none
+ends_now end.ReadFault setting bytes left before count rest replies told between after serves few (given, came, unfinished, words, same) =
+    fails_all setting bytes left before count rest replies told given between after serves few came unfinished words same
+ends_now end.WriteFault setting bytes left before count rest replies told between after serves few (whole, size, next, cut_off) = record {
   count = count;
   few = few;
   rest = rest;
@@ -193,42 +187,44 @@ ends_now end.WriteFault setting bytes left before count rest replies written bet
   whole = whole;
   next = next;
   size = size;
-  told = ap (λ w. replies ++ w) cut_off;
+  ends = ap (λ t. both replies t) cut_off;
 }
-ends_now end.Memory setting bytes left before count rest replies written between after serves few (words, effect) = record {
+ends_now end.Memory setting bytes left before count rest replies told between after serves few (begun, silent, words, effect) = record {
   count = count;
   few = few;
   rest = rest;
   replies = replies;
   between = between;
   serves = serves;
+  begun = begun;
+  silent = silent;
   effect = effect;
-  told = inl (ap (λ w. replies ++ w) words);
+  ends = inl (ap (λ t. both replies t) words);
 }
 
 -- the connection ends at its next request, or at what is none
-pub served_to_end : (ended : End) (setting : Setting) (told : Option (List ℕ)) (left' : Option (List ℕ)) (before : Book) (count : ℕ)
-    (left out mid later : Option (List ℕ)) (between after : Book)
+pub served_to_end : (ended : End) (setting : Setting) (given : Option (List ℕ)) (left' : Option (List ℕ)) (before : Book) (count : ℕ)
+    (left : Option (List ℕ)) (first mid later : Account) (between after : Book)
     → count < most_requests
-    → IfSome told (λ bytes. HasServed setting bytes before count left out mid between)
-    → IfSome left (λ rest. Writes (λ written. Finishes ended setting rest left' between written after) mid later)
-    → IfSome told (λ bytes. Writes (λ written. Ended ended setting bytes left' before written after) out later)
-served_to_end ended setting None left' before count left out mid later between after few served last = tt
-served_to_end ended setting (Some bytes) left' before count left out mid later between after few served last =
+    → IfSome given (λ bytes. HasServed setting bytes before count left first mid between)
+    → IfSome left (λ rest. Brings (λ told. Finishes ended setting rest left' between told after) mid later)
+    → IfSome given (λ bytes. Brings (λ told. Ended ended setting bytes left' before told after) first later)
+served_to_end ended setting None left' before count left first mid later between after few served last = tt
+served_to_end ended setting (Some bytes) left' before count left first mid later between after few served last =
     let step = rw served.leaves at last in (
-      served.written ++ step.0,
-      step.1 ∙ ap (λ o. extended o step.0) served.told ∙ out_more out served.written step.0,
-      ends_now ended setting bytes left' before count served.rest served.written step.0 between after served.serves few step.2,
+      both served.told step.0,
+      step.1 ∙ ap (λ a. account_after a step.0) served.counted ∙ account_more first served.told step.0,
+      ends_now ended setting bytes left' before count served.rest served.told step.0 between after served.serves few step.2,
     )
 
 -- as many requests were answered as a connection may bring
-pub served_most : (setting : Setting) (told left' : Option (List ℕ)) (before : Book) (count : ℕ) (left out later : Option (List ℕ)) (after : Book)
-    → count ≡ most_requests → IfSome told (λ bytes. HasServed setting bytes before count left out later after)
-    → IfSome told (λ bytes. Writes (λ written. Ended end.Limit setting bytes left' before written after) out later)
-served_most setting None left' before count left out later after all served = tt
-served_most setting (Some bytes) left' before count left out later after all served = (
-  served.written,
+pub served_most : (setting : Setting) (given left' : Option (List ℕ)) (before : Book) (count : ℕ) (left : Option (List ℕ)) (first later : Account) (after : Book)
+    → count ≡ most_requests → IfSome given (λ bytes. HasServed setting bytes before count left first later after)
+    → IfSome given (λ bytes. Brings (λ told. Ended end.Limit setting bytes left' before told after) first later)
+served_most setting None left' before count left first later after all served = tt
+served_most setting (Some bytes) left' before count left first later after all served = (
   served.told,
+  served.counted,
   (
     served.rest,
     record {
@@ -240,21 +236,27 @@ served_most setting (Some bytes) left' before count left out later after all ser
   ),
 )
 
+-- nothing was begun
+pub begun_nothing : (turns : ℕ) → IsBegun turns nothing
+begun_nothing turns = record { silent = refl; waits = omega arith; looks = omega arith; numbers = omega arith }
+
 -- memory was wanting before the first request
-pub served_never : (setting : Setting) (told left' out : Option (List ℕ)) (book : Book)
-    → IfSome told (λ bytes. Writes (λ written. Ended end.Memory setting bytes left' book written book) out out)
-served_never setting None left' out book = tt
-served_never setting (Some bytes) left' out book = (
-  [],
-  out_none out,
+pub served_never : (setting : Setting) (given left' : Option (List ℕ)) (first : Account) (book : Book)
+    → IfSome given (λ bytes. Brings (λ told. Ended end.Memory setting bytes left' book told book) first first)
+served_never setting None left' first book = tt
+served_never setting (Some bytes) left' first book = (
+  nothing,
+  account_none first,
   record {
     count = 0;
     few = omega arith;
     rest = bytes;
-    replies = [];
+    replies = nothing;
     between = book;
     serves = record { requests = []; counted = refl; leads = refl; answered = (refl, refl) };
+    begun = nothing;
+    silent = begun_nothing setting.turns;
     effect = inl refl;
-    told = inr (refl, refl, refl);
+    ends = inr (refl, refl, refl);
   },
 )

@@ -4,5 +4,6 @@ pub mod EdgeLemmas
 pub mod EdgeNumberLemmas
 pub mod HeldLemmas
 pub mod StepLemmas
+pub mod ToldLemmas
 pub mod TurnLemmas
 pub mod ViewLemmas

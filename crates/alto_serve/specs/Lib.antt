@@ -7,6 +7,8 @@ pub mod Forms
 pub mod Edges
 pub mod Graphs
 pub mod Answers
+pub mod Looks
+pub mod Told
 pub mod Turns
 pub mod Connections
 pub mod Steps

@@ -10,42 +10,49 @@ use Rattle.alto_serve.specs.declared.end.End.{End}
 use Rattle.alto_serve.specs.declared.end.End.TheVariants as end
 use Rattle.alto_serve.specs.Replies.{head_status}
 use Rattle.alto_serve.specs.Reply.{memory_reply}
-use Rattle.alto_serve.specs.Turns.{HasEffectOrNone}
-use Rattle.alto_serve.specs.Connections.{Setting, Replies, Serves, MayTakeEffect, IsNext, last_words, refusal_bytes}
+use Rattle.alto_serve.specs.Told.{Told, nothing, only_written, both, Account, account_after}
+use Rattle.alto_serve.specs.Turns.{HasEffectOrNone, IsBegun, Setting, TakesTurn}
+use Rattle.alto_serve.specs.Connections.{Serves, MayTakeEffect, IsNext, cut_off, last_words, refusal_bytes}
 
 -- the next request is replied to, and the connection goes on behind it
-pub record GoesOn (setting : Setting) (rest : List ℕ) (left : Option (List ℕ)) (before : Book) (written : List ℕ) (after : Book) : Type 0 where
+pub record GoesOn (setting : Setting) (rest : List ℕ) (left : Option (List ℕ)) (before : Book) (told : Told) (after : Book) : Type 0 where
   pub request : RequestData
   pub behind : List ℕ
   pub begins : Begins rest request behind
   pub stays : request.close ≡ false
-  pub replied : Replies setting request before written after
+  pub replied : TakesTurn setting request before told after
   pub leaves : left ≡ Some behind
 
 -- the connection ends where the rest of its bytes begins
-abbrev pub Finishes : End → Setting → List ℕ → Option (List ℕ) → Book → List ℕ → Book → Type 0
-Finishes end.Closed setting rest left before written after =
-    ((ending : Ending) × Ends rest ending × (ending ≢ cut) × (written ≡ last_words ending) × (after ≡ before))
-    ⊎ ((request : RequestData) × (behind : List ℕ) × Begins rest request behind × (request.close ≡ true) × Replies setting request before written after)
-Finishes end.Cut setting rest left before written after = Ends rest cut × (written ≡ []) × (after ≡ before)
-Finishes end.Limit setting rest left before written after = ⊥
-Finishes end.ReadFault setting rest left before written after =
-    (given : List ℕ) × (Some rest ≡ followed_by given left) × IsUnfinished given × (written ≡ []) × (after ≡ before)
-Finishes end.WriteFault setting rest left before written after =
-    (whole : List ℕ) × (size : ℕ) × IsNext setting rest before whole after × (written ≡ take size whole)
-Finishes end.Memory setting rest left before written after = (written ≡ memory_reply) × MayTakeEffect setting rest before after
+abbrev pub Finishes : End → Setting → List ℕ → Option (List ℕ) → Book → Told → Book → Type 0
+Finishes end.Closed setting rest left before told after =
+    ((ending : Ending) × Ends rest ending × (ending ≢ cut) × (told ≡ only_written (last_words ending)) × (after ≡ before))
+    ⊎ ((request : RequestData) × (behind : List ℕ) × Begins rest request behind × (request.close ≡ true) × TakesTurn setting request before told after)
+Finishes end.Cut setting rest left before told after = Ends rest cut × (told ≡ nothing) × (after ≡ before)
+Finishes end.Limit setting rest left before told after = ⊥
+Finishes end.ReadFault setting rest left before told after =
+    (given : List ℕ) × (Some rest ≡ followed_by given left) × IsUnfinished given × (told ≡ nothing) × (after ≡ before)
+Finishes end.WriteFault setting rest left before told after =
+    (whole : Told) × (size : ℕ) × IsNext setting rest before whole after × (told ≡ cut_off size whole)
+Finishes end.Memory setting rest left before told after =
+    (begun : Told) × IsBegun setting.turns begun × (told ≡ both begun (only_written memory_reply)) × MayTakeEffect setting rest before after
 
 -- a connection ends with the answer to a request
-abbrev pub Responds : End → Setting → RequestData → Book → List ℕ → Book → Type 0
-Responds end.Closed setting request before written after = (request.close ≡ true) × Replies setting request before written after
-Responds end.WriteFault setting request before written after =
-    (whole : List ℕ) × (size : ℕ) × (written ≡ take size whole)
-    × (Replies setting request before whole after ⊎ ((whole ≡ memory_reply) × HasEffectOrNone setting.time request setting.side before after))
-Responds end.Memory setting request before written after =
-    (written ≡ memory_reply) × HasEffectOrNone setting.time request setting.side before after
-Responds end.Cut setting request before written after = ⊥
-Responds end.ReadFault setting request before written after = ⊥
-Responds end.Limit setting request before written after = ⊥
+abbrev pub Responds : End → Setting → RequestData → Book → Told → Book → Type 0
+Responds end.Closed setting request before told after = (request.close ≡ true) × TakesTurn setting request before told after
+Responds end.WriteFault setting request before told after =
+    (whole : Told) × (size : ℕ) × (told ≡ cut_off size whole)
+    × (TakesTurn setting request before whole after
+    ⊎ ((begun : Told) × IsBegun setting.turns begun × (whole ≡ both begun (only_written memory_reply)) × HasEffectOrNone setting request before after))
+Responds end.Memory setting request before told after =
+    (begun : Told) × IsBegun setting.turns begun × (told ≡ both begun (only_written memory_reply)) × HasEffectOrNone setting request before after
+Responds end.Cut setting request before told after = ⊥
+Responds end.ReadFault setting request before told after = ⊥
+Responds end.Limit setting request before told after = ⊥
+
+-- so much was written of which this holds, where a link tells what is out
+abbrev pub Writes : (List ℕ → Type 0) → Option (List ℕ) → Option (List ℕ) → Type 0
+Writes P out later = (written : List ℕ) × (later ≡ extended out written) × P written
 
 -- a connection ends with what is told of bytes that brought no request
 abbrev pub Refuses : End → HeadFault → List ℕ → Type 0
@@ -73,9 +80,9 @@ RefusesWith end.Memory status written = written ≡ memory_reply
 RefusesWith _ status written = ⊥
 
 -- what a connection has come to before its next request
-pub record HasServed (setting : Setting) (bytes : List ℕ) (before : Book) (count : ℕ) (left out later : Option (List ℕ)) (after : Book) : Type 0 where
+pub record HasServed (setting : Setting) (bytes : List ℕ) (before : Book) (count : ℕ) (left : Option (List ℕ)) (first now : Account) (after : Book) : Type 0 where
   pub rest : List ℕ
-  pub written : List ℕ
+  pub told : Told
   pub leaves : left ≡ Some rest
-  pub told : later ≡ extended out written
-  pub serves : Serves setting bytes before count rest written after
+  pub counted : now ≡ account_after first told
+  pub serves : Serves setting bytes before count rest told after

@@ -1,8 +1,6 @@
 -- What a request is told, and what becomes of the book.
-use Rattle.std.specs.Prelude.{◌≡◌, ◌⊎◌, ℕ, Option, Some, None, IfSome, Result}
-use Rattle.alto_book.specs.Acceptance.{accept}
+use Rattle.std.specs.Prelude.{◌≡◌, ◌⊎◌, ◌≤◌, ◌+◌, ℕ, zero, suc, Bool, true, false, [], length, Option, Some, None, IfSome, Result}
 use Rattle.alto_book.specs.Book.{Book}
-use Rattle.alto_book.specs.Import.{Import}
 use Rattle.alto_book.specs.declared.command.Receipt.{Receipt}
 use Rattle.alto_book.specs.declared.fault.EditFault.{EditFault}
 use Rattle.alto_http.specs.Link.{one_more}
@@ -14,45 +12,98 @@ use Rattle.alto_serve.specs.declared.end.End.TheVariants as end
 use Rattle.alto_serve.specs.declared.route.Side.{Side}
 use Rattle.alto_serve.specs.Answers.{answer_to}
 use Rattle.alto_serve.specs.Edges.{too_early}
+use Rattle.alto_serve.specs.Looks.{IsDecided, IsLook}
 use Rattle.alto_serve.specs.Replies.{edit_reply}
-use Rattle.alto_serve.specs.Reply.{ReplyData}
+use Rattle.alto_serve.specs.Reply.{bytes_of}
+use Rattle.alto_serve.specs.Told.{Told, only_written, one_look, edit_look, one_wait, both}
 
--- a reply, and the book after it
-pub record Turn : Type 0 where
-  pub reply : ReplyData
-  pub book : Book
+-- whom a connection serves, and how: its side, the number that its clock always tells where it promises one, whether nobody else
+-- has the book accept imports, and how often it waits for an awaited edge
+pub record Setting : Type 0 where
+  pub side : Side
+  pub time : Option ℕ
+  pub alone : Bool
+  pub turns : ℕ
 
--- the turn of an answer: an awaited edge comes too early, and an import is accepted or refused at the moment when it comes
-abbrev pub turn_of : Answer → Book → ℕ → Turn
-turn_of (answer.Reply reply) book moment = record { reply = reply; book = book }
-turn_of (answer.Hold of i j) book moment = record { reply = too_early i; book = book }
-turn_of (answer.Edit import) book moment =
-    record { reply = edit_reply (accept book import moment).answer; book = (accept book import moment).book }
-
--- the turn of a request of a side, at the book and the moment when it comes
-abbrev pub turn : RequestData → Side → Book → ℕ → Turn
-turn request side book moment = turn_of (answer_to request book side) book moment
-
--- an import that comes at this moment is answered so, and leaves this book
-pub record IsTold (before : Book) (import : Import) (moment : ℕ) (told : Result Receipt EditFault) (later : Book) : Type 0 where
-  pub answered : (accept before import moment).answer ≡ told
-  pub became : later ≡ (accept before import moment).book
+-- the setting of a connection
+abbrev pub setting_of : Side → Option ℕ → Bool → ℕ → Setting
+setting_of side time alone turns = record { side = side; time = time; alone = alone; turns = turns }
 
 -- a moment of a clock, which always tells this number where it promises one
 abbrev pub IsMoment : Option ℕ → ℕ → Type 0
 IsMoment time moment = IfSome time (λ n. moment ≡ n)
 
--- a request has its turn at some moment of the clock
-pub record TakesTurn (time : Option ℕ) (request : RequestData) (side : Side) (before : Book) (reply : ReplyData) (later : Book) : Type 0 where
-  pub moment : ℕ
-  pub timely : IsMoment time moment
-  pub replied : reply ≡ (turn request side before moment).reply
-  pub became : later ≡ (turn request side before moment).book
+-- an answer at a book is concluded: a reply stands; an import is accepted or refused at some moment, by a look more; and an awaited
+-- edge comes too early
+abbrev pub Concludes : Bool → Option ℕ → Bool → Answer → Book → Told → Book → Type 0
+Concludes alone time closing (answer.Reply reply) now told after = (told ≡ only_written (bytes_of reply closing)) × (after ≡ now)
+Concludes alone time closing (answer.Hold of i j) now told after = (told ≡ only_written (bytes_of (too_early i) closing)) × (after ≡ now)
+Concludes alone time closing (answer.Edit import) now told after =
+    (moment : ℕ) × (decided : Result Receipt EditFault) × IsMoment time moment × IsDecided alone now import moment decided after
+    × (told ≡ both edit_look (only_written (bytes_of (edit_reply decided) closing)))
 
--- a request that isn't answered, for want of memory, leaves the book or has its effect whole
-abbrev pub HasEffectOrNone : Option ℕ → RequestData → Side → Book → Book → Type 0
-HasEffectOrNone time request side before later =
-    (later ≡ before) ⊎ ((reply : ReplyData) × TakesTurn time request side before reply later)
+-- whether an answer is an edge that is awaited
+abbrev pub is_held : Answer → Bool
+is_held (answer.Hold of i j) = true
+is_held (answer.Reply reply) = false
+is_held (answer.Edit import) = false
+
+-- what an answer at a book comes to, with so many waits left: an awaited edge is waited for and answered at the next look
+abbrev pub ComesTo : Setting → RequestData → ℕ → Answer → Book → Told → Book → Type 0
+ComesTo setting request zero met now told after = Concludes setting.alone setting.time request.close met now told after
+ComesTo setting request (suc turns) (answer.Reply reply) now told after =
+    Concludes setting.alone setting.time request.close (answer.Reply reply) now told after
+ComesTo setting request (suc turns) (answer.Edit import) now told after =
+    Concludes setting.alone setting.time request.close (answer.Edit import) now told after
+ComesTo setting request (suc turns) (answer.Hold of i j) now told after =
+    (next : Book) × IsLook setting.alone now next × (rest : Told) × (told ≡ both one_wait (both (one_look next) rest))
+    × ComesTo setting request turns (answer_to request next setting.side) next rest after
+
+-- a request has its turn, at a book that was seen before and one that is seen after: it begins with a look
+abbrev pub TakesTurn : Setting → RequestData → Book → Told → Book → Type 0
+TakesTurn setting request before told after =
+    (first : Book) × IsLook setting.alone before first × (rest : Told) × (told ≡ both (one_look first) rest)
+    × ComesTo setting request setting.turns (answer_to request first setting.side) first rest after
+
+-- nothing was written, no more was waited than may be, and it was looked once, and once for each wait
+pub record IsSettledBy (turns : ℕ) (told : Told) : Type 0 where
+  pub silent : told.written ≡ []
+  pub waits : told.waits ≤ turns
+  pub looks : told.looks ≤ told.waits + 1
+  pub numbers : length told.numbers ≤ told.waits + 1
+
+-- a request has looked once, and once after each of so many waits, and has come to this answer: whatever that comes to, with so many
+-- waits left, is what the request comes to
+pub record HasCome (setting : Setting) (request : RequestData) (before : Book) (waits left : ℕ) (met : Answer) (now : Book) (told : Told) : Type 0 where
+  pub silent : told.written ≡ []
+  pub waited : told.waits ≡ waits
+  pub looked : told.looks ≡ waits + 1
+  pub numbered : length told.numbers ≡ waits + 1
+  pub goes_on : (rest : Told) (after : Book) → ComesTo setting request left met now rest after → TakesTurn setting request before (both told rest) after
+
+-- a request has come to an answer that is left to conclude
+pub record HasSettled (setting : Setting) (request : RequestData) (before : Book) (met : Answer) (now : Book) (told : Told) : Type 0 where
+  pub begun : IsSettledBy setting.turns told
+  pub goes_on : (rest : Told) (after : Book) → Concludes setting.alone setting.time request.close met now rest after
+      → TakesTurn setting request before (both told rest) after
+
+-- a request that isn't answered, for want of memory, has its effect whole or not at all
+abbrev pub HasEffectOrNone : Setting → RequestData → Book → Book → Type 0
+HasEffectOrNone setting request before after =
+    IsLook setting.alone before after ⊎ ((told : Told) × TakesTurn setting request before told after)
+
+-- the same of an answer that isn't concluded
+abbrev pub ConcludesOrNot : Bool → Option ℕ → Bool → Answer → Book → Book → Type 0
+ConcludesOrNot alone time closing met now after =
+    IsLook alone now after ⊎ ((told : Told) × Concludes alone time closing met now told after)
+
+-- what such a request has brought about: it wrote nothing, waited no more often than it may, and looked once, once for each wait, and
+-- once for an import
+pub record IsBegun (turns : ℕ) (told : Told) : Type 0 where
+  pub silent : told.written ≡ []
+  pub waits : told.waits ≤ turns
+  pub looks : told.looks ≤ told.waits + 2
+  pub numbers : length told.numbers ≤ told.waits + 1
 
 -- the count of failed reads when a connection has ended: one more where a read's fault ended it
 abbrev pub reads_at : End → ℕ → ℕ

@@ -165,8 +165,8 @@ fn edge_reply<R: RowStore>(
     }
 }
 
-/// The number that a text is: 1 to 18 decimal digits, the first of several not 0.
-fn edge_number(text: &[u8]) -> Option<u64>
+/// The number that a text is, as in the path of an edge: 1 to 18 decimal digits, the first of several not 0.
+pub fn edge_number(text: &[u8]) -> Option<u64>
     ensures { result ≡ edge_number text.now }
 {
     if is_edge_number(text) {

@@ -1,9 +1,8 @@
 ghost use Rattle.std.specs.Prelude.{◌≡◌, ℕ, true, Err, IfOk};
 ghost use Rattle.alto_http.specs.Intake.{reads_after};
-ghost use Rattle.alto_serve.specs.Connections.{Writes};
 ghost use Rattle.alto_serve.specs.Replies.{status_alone};
 ghost use Rattle.alto_serve.specs.Reply.{IsReply, bytes_of};
-ghost use Rattle.alto_serve.specs.Steps.{Refuses, RefusesWith, WantsMemory};
+ghost use Rattle.alto_serve.specs.Steps.{Refuses, RefusesWith, WantsMemory, Writes};
 ghost use Rattle.alto_serve.specs.Turns.{reads_at, writes_at};
 
 use crate::end::End;

@@ -1,9 +1,10 @@
-use crate::tests::{import, piped, reply};
+use crate::run::run;
+use crate::tests::{import, piped, reply, words};
 use alto_desk::Desk;
 use alto_http::MemLink;
 use alto_names::Epoch;
 use alto_rows::PlainRows;
-use alto_serve::{FixedClock, Side, serve_conn};
+use alto_serve::{FixedClock, Side, Solo, serve_conn};
 use std::alloc::{AllocError, Global};
 use std::test::Fail;
 
@@ -154,11 +155,37 @@ fn a_window_of_two(rt: HostRuntime) -> Result<(), Fail> {
         ("/tips/metro/ug/0/3", &snapshot),
     ] {
         let mut link = output_for(alloc, 4, path)?;
-        let mut desk = Desk::<PlainRows>::start(alloc, Epoch::read(alloc, b"e1")?, 2)?;
-        serve_conn(alloc, &mut desk, &mut link, &FixedClock(100), Side::Both);
+        let desk = Desk::<PlainRows>::start(alloc, Epoch::read(alloc, b"e1")?, 2)?;
+        serve_conn(
+            alloc,
+            &mut Solo::new(desk),
+            &mut link,
+            &FixedClock(100),
+            Side::Both,
+            3,
+        );
         let told = receipts(alloc, 4)?;
         let output = format!(in alloc; "{told}{answer}")?;
         assert!(rt; link.output() == output.as_bytes(), "{path}");
+    }
+    Ok(())
+}
+
+#[test]
+fn an_edge_that_never_comes_is_told_after_the_turns(rt: HostRuntime) -> Result<(), Fail> {
+    let alloc = rt.alloc();
+    for turns in ["0", "3"] {
+        let words = words(alloc, &["pipe", "x", "--turns", turns])?;
+        let mut link = output_for(alloc, 3, "/tips/metro/ug/3/4")?;
+        assert_eq!(rt;
+            run(alloc, &words, &mut link, &FixedClock(100)),
+            0,
+            "{turns}"
+        );
+        let told = receipts(alloc, 3)?;
+        let last = reply(alloc, "425 Too Early", "{\"end-seq\":3,\"status\":425}")?;
+        let output = format!(in alloc; "{told}{last}")?;
+        assert!(rt; link.output() == output.as_bytes(), "{turns}");
     }
     Ok(())
 }

@@ -4,7 +4,7 @@ use alto_desk::Desk;
 use alto_http::MemLink;
 use alto_names::Epoch;
 use alto_rows::PlainRows;
-use alto_serve::{FixedClock, Side, serve_conn};
+use alto_serve::{FixedClock, Side, Solo, serve_conn};
 use std::alloc::{AllocError, Global};
 use std::process::Abort;
 use std::test::Fail;
@@ -137,8 +137,15 @@ fn a_tag_that_is_kept_no_more_holds_nothing(rt: HostRuntime) -> Result<(), Fail>
         let body = format!(in alloc; "{{\"resource-id\":\"metro\",\"tag\":\"{tag}\"}}")?;
         let request = opening_at(alloc, "h", body.as_str())?;
         let mut link = after_three(alloc, request.as_str())?;
-        let mut desk = Desk::<PlainRows>::start(alloc, Epoch::read(alloc, b"e1")?, 2)?;
-        serve_conn(alloc, &mut desk, &mut link, &FixedClock(100), Side::Both);
+        let desk = Desk::<PlainRows>::start(alloc, Epoch::read(alloc, b"e1")?, 2)?;
+        serve_conn(
+            alloc,
+            &mut Solo::new(desk),
+            &mut link,
+            &FixedClock(100),
+            Side::Both,
+            3,
+        );
         let receipts = receipts(alloc, 3)?;
         let view = view(alloc, "h", (i, j), 2, 3)?;
         let output = format!(in alloc; "{receipts}{view}")?;

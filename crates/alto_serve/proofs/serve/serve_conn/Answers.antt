@@ -1,6 +1,6 @@
 use Rattle.std.proofs.Common.{◌<◌, refl, ◌∙◌, arith}
-use Rattle.alto_book.proofs.AcceptanceLemmas.{extends_on}
-use Rattle.alto_serve.proofs.ConnectionLemmas.{served_more, served_never, served_to_end}
+use Rattle.alto_book.proofs.AcceptanceLemmas.{extends_itself, extends_on}
+use Rattle.alto_serve.proofs.ConnectionLemmas.{served_more, served_never, served_none, served_to_end}
 use Rattle.alto_serve.proofs.serve.serve_conn.Goals as goal
 
 pub returns-in_default-clause-served : goal.returns-in_default-clause-served
@@ -24,3 +24,11 @@ loop-count-preserved g c =
       writes = next.writes ∙ before.writes;
       book = extends_on _ _ _ before.book next.book;
     }
+
+pub loop-count-init : goal.loop-count-init
+loop-count-init g c = record {
+  served = served_none _ (g.L.Link.left c.args.link.now) _ _ _ c.in-Ok-new.ensures;
+  reads = refl;
+  writes = refl;
+  book = extends_itself _;
+}
