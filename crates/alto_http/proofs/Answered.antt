@@ -5,7 +5,7 @@ use Rattle.alto_http.specs.declared.fault.HeadFault.TheVariants.{TooLarge}
 use Rattle.alto_http.specs.Link.{followed_by}
 use Rattle.alto_http.specs.Request.{RequestData, Passes, FailsBy}
 use Rattle.alto_http.specs.Intake.{GivesBehind, GivesOnly}
-use Rattle.alto_http.specs.Splits.{IsHeadAt, IsTooLong, IsRefused, IsUnfinished, Begins, EndsInside}
+use Rattle.alto_http.specs.Splits.{IsHeadAt, IsTooLong, IsRefused, IsUnfinished, Begins, EndsInBody, EndsInside}
 use Rattle.alto_http.proofs.Links.{followed_by-followed_by}
 use Rattle.alto_http.proofs.Places.{head_at_some, head_at_append, head_bytes_append, behind_head_append, too_long_append}
 
@@ -26,12 +26,13 @@ refused_head whole ahead (Some left) start size fault is at fails =
       let P : List ℕ → Type 0 = λ head. FailsBy head fault in subst P (sym (head_bytes_append ahead left start size at)) fails,
     ))
 
-pub cut_in_body : (whole : Option (List ℕ)) (ahead : List ℕ) (left : Option (List ℕ)) (start size : ℕ) (request : RequestData) (long : ℕ)
+-- a body that is shorter than its head says
+ends_in_body : (whole : Option (List ℕ)) (ahead : List ℕ) (left : Option (List ℕ)) (start size : ℕ) (request : RequestData) (long : ℕ)
     → whole ≡ followed_by ahead left → IsHeadAt ahead start size → Passes (take size (drop start ahead)) request long
-    → IfSome (followed_by (drop (start + size) ahead) left) (λ bytes. length bytes < long) → IfSome whole EndsInside
-cut_in_body whole ahead None start size request long is at passes short = rw is tt
-cut_in_body whole ahead (Some left) start size request long is at passes short =
-    rw is (inr (
+    → IfSome (followed_by (drop (start + size) ahead) left) (λ bytes. length bytes < long) → IfSome whole EndsInBody
+ends_in_body whole ahead None start size request long is at passes short = rw is tt
+ends_in_body whole ahead (Some left) start size request long is at passes short =
+    rw is (
       start,
       size,
       request,
@@ -39,7 +40,18 @@ cut_in_body whole ahead (Some left) start size request long is at passes short =
       head_at_append ahead left start size (head_at_some ahead start size at) at,
       (let P : List ℕ → Type 0 = λ head. Passes head request long in subst P (sym (head_bytes_append ahead left start size at)) passes),
       rw (behind_head_append ahead left start size at) short,
-    ))
+    )
+
+-- bytes that end in a body end inside a request
+inside_body : (whole : Option (List ℕ)) → IfSome whole EndsInBody → IfSome whole EndsInside
+inside_body None ends = ends
+inside_body (Some bytes) ends = inr ends
+
+pub cut_in_body : (whole : Option (List ℕ)) (ahead : List ℕ) (left : Option (List ℕ)) (start size : ℕ) (request : RequestData) (long : ℕ)
+    → whole ≡ followed_by ahead left → IsHeadAt ahead start size → Passes (take size (drop start ahead)) request long
+    → IfSome (followed_by (drop (start + size) ahead) left) (λ bytes. length bytes < long) → IfSome whole EndsInside
+cut_in_body whole ahead left start size request long is at passes short =
+    inside_body whole (ends_in_body whole ahead left start size request long is at passes short)
 
 -- the head passed for a request without a body, which it is too where the body is taken from a later one
 passes_bare : (head : List ℕ) (bare : RequestData) (long : ℕ) → Passes head bare long → Passes head (record bare { body = [] }) long
@@ -69,15 +81,19 @@ begins_with whole ahead (Some left) ahead' (Some left') start size bare request 
       },
     )
 
--- a body that didn't come whole leaves the bytes that came unfinished
+-- where a body didn't come whole, the bytes that came end inside it
 pub unfinished_body : (first : List ℕ) (old : Option (List ℕ)) (ahead : List ℕ) (left : Option (List ℕ)) (left' : Option (List ℕ))
     (start size : ℕ) (request : RequestData) (long : ℕ)
     → followed_by first old ≡ followed_by ahead left → IsHeadAt ahead start size → Passes (take size (drop start ahead)) request long
     → GivesBehind (λ given. length given < long) (drop (start + size) ahead) left left'
-    → GivesOnly IsUnfinished first old left'
+    → GivesOnly EndsInBody first old left'
 unfinished_body first old ahead left left' start size request long is at passes (given, came, short) = (
   ahead ++ came.piece,
   is ∙ ap (followed_by ahead) came.given ∙ followed_by-followed_by ahead came.piece left',
-  inr (cut_in_body (Some (ahead ++ came.piece)) ahead (Some came.piece) start size request long refl at passes
-      (let P : List ℕ → Type 0 = λ bytes. length bytes < long in subst P came.behind short)),
+  ends_in_body (Some (ahead ++ came.piece)) ahead (Some came.piece) start size request long refl at passes
+      (let P : List ℕ → Type 0 = λ bytes. length bytes < long in subst P came.behind short),
 )
+
+-- bytes that end in a body are unfinished
+pub body_unfinished : (first : List ℕ) (old left' : Option (List ℕ)) → GivesOnly EndsInBody first old left' → GivesOnly IsUnfinished first old left'
+body_unfinished first old left' (given, came, ends) = (given, came, inr (inr ends))

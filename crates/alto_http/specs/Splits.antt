@@ -45,13 +45,16 @@ IsRefused bytes fault =
     (IsTooLong bytes × (fault ≡ TooLarge))
     ⊎ ((start : ℕ) × (size : ℕ) × IsHeadAt bytes start size × FailsBy (take size (drop start bytes)) fault)
 
+-- the bytes hold a whole head, and end inside the body that it says
+abbrev pub EndsInBody : List ℕ → Type 0
+EndsInBody bytes =
+    (start : ℕ) × (size : ℕ) × (request : RequestData) × (length_of_body : ℕ) × IsHeadAt bytes start size
+    × Passes (take size (drop start bytes)) request length_of_body
+    × (length (drop (start + size) bytes) < length_of_body)
+
 -- the bytes end inside a request: in its head, or in its body
 abbrev pub EndsInside : List ℕ → Type 0
-EndsInside bytes =
-    EndsInHead bytes
-    ⊎ ((start : ℕ) × (size : ℕ) × (request : RequestData) × (length_of_body : ℕ) × IsHeadAt bytes start size
-    × Passes (take size (drop start bytes)) request length_of_body
-    × (length (drop (start + size) bytes) < length_of_body))
+EndsInside bytes = EndsInHead bytes ⊎ EndsInBody bytes
 
 -- the bytes hold no whole request, and more may make one: line breaks alone, or a request that has begun
 abbrev pub IsUnfinished : List ℕ → Type 0

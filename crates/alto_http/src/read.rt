@@ -1,7 +1,7 @@
 ghost use Rattle.std.specs.Prelude.{◌≡◌, ◌≢◌, ◌++◌, ℕ, List, IfOk, IfErr, IfSome, IsErrOf, OnErr, ◌⊎◌, Some};
-ghost use Rattle.alto_http.specs.Intake.{GivesOnly, KeepsWhole, reads_after};
+ghost use Rattle.alto_http.specs.Intake.{GivesOnly, KeepsWhole, ReadsAhead, reads_after};
 ghost use Rattle.alto_http.specs.Link.{followed_by, IsAtEnd};
-ghost use Rattle.alto_http.specs.Splits.{Begins, IsBlank, IsRefused, IsUnfinished, EndsInside};
+ghost use Rattle.alto_http.specs.Splits.{Begins, IsBlank, IsRefused, IsUnfinished, EndsInBody, EndsInside};
 
 use crate::fault::HeadFault;
 use crate::head::read_head;
@@ -32,6 +32,11 @@ pub fn read_request<L: Link>(
     ensures whole { KeepsWhole intake.old (L.left link.old) intake.new (L.left link.new) }
     ensures none_left { IfOk result (λ request. request ≡ None → IsAtEnd (L.left link.new)) }
     ensures cut_left { IsErrOf result HeadFault.Cut → IsAtEnd (L.left link.new) }
+
+    // After a fault of a read all that came is ahead still, unless a body had begun.
+    ensures kept { IsErrOf result HeadFault.ReadFault
+        → ReadsAhead intake.old (L.left link.old) intake.new (L.left link.new)
+        ⊎ GivesOnly EndsInBody intake.old (L.left link.old) (L.left link.new) }
 
     // It answers a fault of a read exactly where one was counted.
     ensures counted { L.failed_reads link.new ≡ reads_after result (L.failed_reads link.old) }

@@ -1,8 +1,8 @@
-use Rattle.std.proofs.Common.{◌≡◌, ℕ, List, take, drop, subst, ap, ◌∙◌, arith}
+use Rattle.std.proofs.Common.{◌≡◌, ℕ, List, take, drop, subst, ap, ◌∙◌, arith, inl, inr}
 use Rattle.alto_http.specs.declared.fault.HeadFault.TheVariants.{TooLarge}
 use Rattle.alto_http.specs.Request.{Passes, FailsBy}
 use Rattle.alto_http.proofs.Ahead.{ahead_whole, whole_same, whole_taken}
-use Rattle.alto_http.proofs.Answered.{refused_long, refused_head, cut_in_body, begins_with, unfinished_body}
+use Rattle.alto_http.proofs.Answered.{refused_long, refused_head, cut_in_body, begins_with, unfinished_body, body_unfinished}
 use Rattle.alto_http.proofs.read.read_request.Goals as goal
 
 pub returns-in-Err-clause-refused : goal.returns-in-Err-clause-refused
@@ -68,6 +68,24 @@ returns-in-Err-take_body-clause-unfinished g c is =
     let here : c.part-head.result.now ≡ take place.1 (drop place.0 c.find_head.new.intake) =
     c.part-head.ensures ∙ ap (λ xs. take place.1 (drop place.0 xs)) c.bytes.ensures.bytes in
     let P : List ℕ → Type 0 = λ head. Passes head read.0 read.1 in
-    unfinished_body _ _ _ _ _ place.0 place.1 read.0 read.1
+    body_unfinished _ _ _ (unfinished_body _ _ _ _ _ place.0 place.1 read.0 read.1
     (ahead_whole _ _ _ _ c.find_head.ensures.ahead) at (subst P here c.in-Ok.ensures.ok)
-    (rw c.consume.ensures at (c.in-Err-take_body.ensures.short (cc)))
+    (rw c.consume.ensures at (c.in-Err-take_body.ensures.short (cc))))
+
+pub returns-in-Err-clause-kept : goal.returns-in-Err-clause-kept
+returns-in-Err-clause-kept g c is = inl c.find_head.ensures.ahead
+
+pub returns-in-Err-read_head-clause-kept : goal.returns-in-Err-read_head-clause-kept
+returns-in-Err-read_head-clause-kept g c is = inl c.find_head.ensures.ahead
+
+pub returns-in-Err-take_body-clause-kept : goal.returns-in-Err-take_body-clause-kept
+returns-in-Err-take_body-clause-kept g c is =
+    let place = c.in-Ok-Some.place in
+    let read = c.in-Ok.read in
+    let at = rw c.in-Ok-Some.field-0-is at c.in-Ok-Some.ensures.found in
+    let here : c.part-head.result.now ≡ take place.1 (drop place.0 c.find_head.new.intake) =
+    c.part-head.ensures ∙ ap (λ xs. take place.1 (drop place.0 xs)) c.bytes.ensures.bytes in
+    let P : List ℕ → Type 0 = λ head. Passes head read.0 read.1 in
+    inr (unfinished_body _ _ _ _ _ place.0 place.1 read.0 read.1
+    (ahead_whole _ _ _ _ c.find_head.ensures.ahead) at (subst P here c.in-Ok.ensures.ok)
+    (rw c.consume.ensures at (c.in-Err-take_body.ensures.short (cc))))
