@@ -80,3 +80,14 @@ swap_rests xs ys n count front =
 -- what is the same of a front is the same of a shorter one
 pub take_shorter : (xs ys : List ℕ) (m n : ℕ) → m ≤ n → take n ys ≡ take n xs → take m ys ≡ take m xs
 take_shorter xs ys m n h same = sym (take-take m n ys h) ∙ ap (take m) same ∙ take-take m n xs h
+
+-- a range to the end
+pub range_to_end : (xs : List ℕ) (start : ℕ) → slice_range xs start (length xs) ≡ drop start xs
+range_to_end xs start =
+    let h : length (drop start xs) ≤ length xs - start = simp length-drop (omega arith) in
+    take_all (length xs - start) (drop start xs) h
+
+-- what is left is its front and what is left behind it
+pub given_front : (xs front : List ℕ) (given k : ℕ) → front ≡ take k (drop given xs) → drop given xs ≡ front ++ drop (given + k) xs
+given_front xs front given k is =
+    sym (take-append-drop k (drop given xs)) ∙ ap (λ a. a ++ drop k (drop given xs)) (sym is) ∙ ap (λ a. front ++ a) (drop-drop k given xs)

@@ -1,5 +1,6 @@
 ghost use Rattle.std.specs.Prelude.{◌≡◌, ◌<◌, ◌≤◌, ◌++◌, min, [], length, take, is_err, IfOk, OnErr};
 ghost use Rattle.alto_http.specs.Link.{count_after};
+ghost use Rattle.alto_http.specs.MemLink.{piece_size};
 
 use crate::intake::copy_front;
 use crate::link::{Failed, Link};
@@ -125,7 +126,8 @@ impl MemLink {
 
 impl Link for MemLink {
     ghost use Rattle.std.specs.Prelude.{Some};
-    ghost use Rattle.alto_http.specs.MemLink.{read_fails, write_fails};
+    ghost use Rattle.alto_http.specs.Link.{one_more};
+    ghost use Rattle.alto_http.specs.MemLink.{read_fails, write_fails, read_count, write_count};
 
     ghost left = { λ m. Some m.left };
 
@@ -137,6 +139,12 @@ impl Link for MemLink {
 
     fn read(&mut self, into: &mut [u8]) -> Result<usize, Failed>
         ensures fails { is_err result ≡ read_fails self.old }
+        ensures count { IfOk result (λ k. k ≡ read_count self.old (length into.new)) }
+        ensures called { self.new ≡ record self.old {
+          left = self.new.left;
+          reads = one_more self.old.reads;
+          failed_reads = count_after result self.old.failed_reads;
+        } }
 
         ensures within { IfOk result (λ k. k ≤ length into.new) }
         ensures given { IfOk result (λ k. self.old.left ≡ take k into.new ++ self.new.left) }
@@ -161,6 +169,12 @@ impl Link for MemLink {
 
     fn write(&mut self, piece: &[u8]) -> Result<usize, Failed>
         ensures fails { is_err result ≡ write_fails self.old piece.now }
+        ensures count { IfOk result (λ k. k ≡ write_count self.old piece.now) }
+        ensures called { self.new ≡ record self.old {
+          out = self.new.out;
+          writes = one_more self.old.writes;
+          failed_writes = count_after result self.old.failed_writes;
+        } }
 
         ensures within { IfOk result (λ k. k ≤ length piece.now) }
         ensures some { IfOk result (λ k. 0 < length piece.now → 0 < k) }
@@ -186,7 +200,8 @@ impl Link for MemLink {
 
 /// How many bytes the read of this number gives at most.
 fn piece_size(sizes: &[usize], call: u64) -> usize
-    ensures { 0 < result }
+    ensures size { result ≡ piece_size sizes.now call }
+    ensures some { 0 < result }
 {
     if sizes.is_empty() {
         return usize::MAX;
