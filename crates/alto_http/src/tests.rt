@@ -212,6 +212,11 @@ fn a_head_is_too_large_by_its_bytes_or_its_lines(rt: HostRuntime) -> Result<(), 
             "no end",
         ),
         (
+            vec![in alloc; b'a'; 16385]?,
+            Some(HeadFault::TooLarge),
+            "no end, and one byte more",
+        ),
+        (
             vec![in alloc; b'a'; 16383]?,
             Some(HeadFault::Cut),
             "an end may come",
