@@ -1,5 +1,5 @@
--- How far a text begins a constraint.
-use Rattle.std.specs.Prelude.{ℕ, ◌≤◌, List, ◌++◌, length, take}
+-- How far a text begins a constraint, and what is written of the fault of one that is none.
+use Rattle.std.specs.Prelude.{ℕ, ◌≤◌, List, ◌++◌, length, take, decimal, codes}
 use Rattle.cost_rule.specs.declared.constraint.Constraint.{Constraint}
 use Rattle.cost_rule.specs.declared.fault.ConstraintFault.{ConstraintFault}
 use Rattle.cost_rule.specs.declared.fault.ConstraintFault.TheVariants.{BadAt}
@@ -20,3 +20,7 @@ pub record IsLongestBeginning (text : List ℕ) (place : ℕ) : Type 0 where
 -- the fault is that of the text
 abbrev pub IsFaultOf : List ℕ → ConstraintFault → Type 0
 IsFaultOf text (BadAt place) = IsLongestBeginning text place
+
+-- what is written of a fault
+abbrev pub fault_text : ConstraintFault → List ℕ
+fault_text (BadAt place) = codes "no constraint, from place " ++ decimal place ++ codes " on"

@@ -37,6 +37,7 @@ impl Digits {
             None
         }
     }
+
     /// The millionths that they write as a fraction.
     pub(crate) fn millionths(self) -> u128
         requires { IsCounted 6 self }

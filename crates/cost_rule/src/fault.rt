@@ -9,6 +9,11 @@ pub enum ConstraintFault {
 }
 
 impl fmt::Display for ConstraintFault {
+    ghost use Rattle.std.specs.Prelude.{Some};
+    ghost use Rattle.cost_rule.specs.Beginning.{fault_text};
+
+    ghost output = { λ fault. Some (fault_text fault) };
+
     fn fmt<W: fmt::Write>(&self, f: &mut fmt::Formatter<W>) -> fmt::Result {
         let ConstraintFault::BadAt(place) = self;
         write!(f, "no constraint, from place {place} on")
