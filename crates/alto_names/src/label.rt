@@ -37,6 +37,11 @@ impl From<AllocError> for NameFault {
 }
 
 impl fmt::Display for NameFault {
+    ghost use Rattle.std.specs.Prelude.{Some};
+    ghost use Rattle.alto_names.specs.Text.{text_of};
+
+    ghost output = { λ fault. Some (text_of fault) };
+
     fn fmt<W: fmt::Write>(&self, f: &mut fmt::Formatter<W>) -> fmt::Result {
         match self {
             NameFault::Empty => write!(f, "an empty name"),
@@ -137,12 +142,16 @@ impl<K: Kind> Clone for Label<K> {
 }
 
 impl<K: Kind> fmt::Display for Label<K> {
+    ghost output = { λ name. Some name };
+
     fn fmt<W: fmt::Write>(&self, f: &mut fmt::Formatter<W>) -> fmt::Result {
         f.write_str(self.text.as_str())
     }
 }
 
 impl<K: Kind> fmt::Debug for Label<K> {
+    ghost debug_output = { λ name. Some name };
+
     fn fmt<W: fmt::Write>(&self, f: &mut fmt::Formatter<W>) -> fmt::Result {
         write!(f, "{self}")
     }
