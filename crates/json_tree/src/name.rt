@@ -24,7 +24,7 @@ impl Model for Name {
 }
 
 impl Name {
-    /// Takes no memory.
+    /// A name that is this text. Takes no memory.
     pub fn new(text: String) -> Name
         ensures { result ≡ string_bytes text }
     {
@@ -40,7 +40,7 @@ impl Name {
         })
     }
 
-    /// Takes no memory.
+    /// The text of the name. Takes no memory.
     pub fn as_str(&self) -> &str
         ensures value { result.now ≡ self.now }
         ensures utf8 { IsUtf8 self.now }
@@ -100,6 +100,10 @@ impl Ord for Name {
 }
 
 impl fmt::Debug for Name {
+    ghost use Rattle.std.specs.Fmt.{debug_str};
+
+    ghost debug_output = { debug_str };
+
     fn fmt<W: fmt::Write>(&self, f: &mut fmt::Formatter<W>) -> fmt::Result {
         fmt::Debug::fmt(&self.as_str(), f)
     }

@@ -8,10 +8,15 @@ use std::collections::BTreeMap;
 /// A JSON value (RFC 8259). Numbers are the whole numbers 0 to 2^64 - 1.
 #[derive(Debug, Drop)]
 pub enum Tree {
+    /// The value null.
     Null,
+    /// True or false.
     Bool(bool),
+    /// A whole number.
     Num(u64),
+    /// A text.
     Text(Name),
+    /// An array's values, in order.
     List(Vec<Tree>),
     /// The members, in the byte order of their names.
     Object(BTreeMap<Name, Tree>),
@@ -37,7 +42,7 @@ impl Tree {
         Tree::Text(name)
     }
 
-    /// Takes no memory.
+    /// The value null. Takes no memory.
     #[tactic(auto, unfolding(crate::specs::Tree::data_of))]
     pub fn null() -> Tree
         ensures { data_of result ≡ null }
@@ -45,7 +50,7 @@ impl Tree {
         Tree::Null
     }
 
-    /// Takes no memory.
+    /// True or false. Takes no memory.
     #[tactic(auto, unfolding(crate::specs::Tree::data_of))]
     pub fn boolean(truth: bool) -> Tree
         ensures { data_of result ≡ boolean truth }
@@ -53,7 +58,7 @@ impl Tree {
         Tree::Bool(truth)
     }
 
-    /// Takes no memory.
+    /// A whole number. Takes no memory.
     #[tactic(auto, unfolding(crate::specs::Tree::data_of))]
     pub fn number(n: u64) -> Tree
         ensures { data_of result ≡ number (unsigned n) }
@@ -61,7 +66,7 @@ impl Tree {
         Tree::Num(n)
     }
 
-    /// Takes no memory.
+    /// An array of these values. Takes no memory.
     #[tactic(auto, unfolding(crate::specs::Tree::data_of))]
     pub fn list(trees: Vec<Tree>) -> Tree
         ensures { data_of result ≡ array_of (map data_of trees.items) }
