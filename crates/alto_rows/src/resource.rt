@@ -9,7 +9,7 @@ use alto_names::NetName;
 pub enum Resource {
     /// The network map of a network (RFC 7285, section 11.2.1).
     Net(NetName),
-    /// The property map of a network (RFC 9240, section 6).
+    /// The property map of a network (RFC 9240).
     Prop(NetName),
 }
 
