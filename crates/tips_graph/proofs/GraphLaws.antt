@@ -10,7 +10,7 @@ use Rattle.tips_graph.specs.declared.status.EdgeStatus.TheVariants.{Absent, Gone
 use Rattle.tips_graph.specs.Graph.{GraphData, Push, graph_of, first_of, keeps, status_of, is_step_here}
 use Rattle.tips_graph.specs.Keys.{key_set}
 use Rattle.tips_graph.specs.Laws.{OnePushMore, RowsAreThoseOfThePush, SpanIsOfThePushes, EachEdgeHasOneStatus, KeptStepsAreHere, RecommendedIsHereOrAwaited}
-use Rattle.tips_graph.proofs.SpanLemmas.{IsStep, step_here}
+use Rattle.tips_graph.proofs.SpanLemmas.{IsStep, some_last, step_here}
 
 -- one push more on the graph of pushes is the graph of one push more
 pub one_push_more : OnePushMore
@@ -44,10 +44,6 @@ step_is_here Absent i h = cc
 step_is_here Gone i h = cc
 step_is_here Awaited i h = cc
 step_is_here Ahead i h = cc
-
--- a graph in which an edge can be had isn't empty
-some_last : (graph : GraphData) (i j : ℕ) → status_of graph i j ≡ Here → 0 < graph.last
-some_last graph i j here = grind (arith, nat_tests)
 
 -- the keys of an edge that can be had are those of the pushes between
 pub span_of_the_pushes : SpanIsOfThePushes

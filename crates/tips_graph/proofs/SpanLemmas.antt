@@ -24,6 +24,10 @@ pub record IsStep (graph : GraphData) (i j : ℕ) : Type 0 where
   pub to : j ≤ graph.last
   pub kept : keeps graph j ≡ true
 
+-- a graph in which an edge can be had isn't empty
+pub some_last : (graph : GraphData) (i j : ℕ) → status_of graph i j ≡ Here → 0 < graph.last
+some_last graph i j here = grind (arith, nat_tests)
+
 -- an edge between versions that can be had is a step between kept numbers
 pub step_here : (graph : GraphData) (i j : ℕ) → i ≢ 0 → 0 < graph.last → status_of graph i j ≡ Here → IsStep graph i j
 step_here graph i j some last here = record { onward = grind (arith, nat_tests); from = grind (arith, nat_tests); to = grind (arith, nat_tests); kept = grind (arith, nat_tests) }
@@ -54,9 +58,10 @@ chosen true found h = refl
 chosen false found h = cc
 
 -- the keys of a step that can be had are those of the push at its end
-pub span_at : (graph : GraphData) (i j : ℕ) (found : Option Push) → IsSound graph → i ≢ 0 → 0 < graph.last → status_of graph i j ≡ Here
+pub span_at : (graph : GraphData) (i j : ℕ) (found : Option Push) → IsSound graph → i ≢ 0 → status_of graph i j ≡ Here
     → found ≡ (if keeps graph j then slice_get graph.kept (j - first_of graph) else None) → option_map (λ push. push.keys) found ≡ span_of graph i j
-span_at graph i j found sound some last here is =
+span_at graph i j found sound some here is =
+    let last : 0 < graph.last = some_last graph i j here in
     let step : IsStep graph i j = step_here graph i j some last here in
     let within : j - first_of graph < length graph.kept = kept_place graph i j sound last step in
     step_keys graph.kept (j - i) (i + 1 - first_of graph) (j - first_of graph) found within sound.sets (omega (arith, step.onward)) (omega (arith, step.onward)) (is ∙ chosen (keeps graph j) _ step.kept)

@@ -91,9 +91,8 @@ impl<R: RowStore> Graph<R> {
         self.last
     }
 
-    /// Whether an edge can be had.
+    /// Whether an edge can be had: in an empty graph none can, and (0, 1) is awaited.
     pub fn status(&self, i: u64, j: u64) -> EdgeStatus
-        requires { 0 < self.now.last }
         ensures { result ≡ status_of self.now i j }
     {
         edge_status(self.first(), self.last, i, j)
@@ -109,7 +108,6 @@ impl<R: RowStore> Graph<R> {
     /// The distinct keys that lead from one version to another, in their order, `None` exactly where that edge can't be
     /// had or leads from 0.
     pub fn span(&self, i: u64, j: u64) -> Option<&[Key]>
-        requires { 0 < self.now.last }
         ensures { option_map (λ keys. keys.now) result ≡ span_of self.now i j }
     {
         match self.status(i, j) {
