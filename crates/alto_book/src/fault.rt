@@ -3,7 +3,7 @@ use std::alloc::{AllocError, AllocFailed};
 use std::error::Error;
 use std::fmt;
 
-/// Why an import isn't accepted. Nothing has changed then.
+/// Why an import isn't accepted.
 #[derive(Clone, Copy, Debug, PartialEq, Eq)]
 pub enum EditFault {
     /// The batch of this number has the import's id and another body.
@@ -18,6 +18,8 @@ pub enum EditFault {
         /// The rule.
         rule: Rule,
     },
+    /// The records of the batches couldn't be kept. No import's acceptance gives it, only an office whose records fail.
+    Keeper,
     /// The memory couldn't be had.
     Memory,
 }
@@ -59,10 +61,16 @@ impl From<CompileFault> for EditFault {
 }
 
 impl fmt::Display for EditFault {
+    ghost use Rattle.std.specs.Prelude.{Some};
+    ghost use Rattle.alto_book.specs.Faults.{text_of};
+
+    ghost output = { λ fault. Some (text_of fault) };
+
     fn fmt<W: fmt::Write>(&self, f: &mut fmt::Formatter<W>) -> fmt::Result {
         match self {
             EditFault::OtherBody { n } => write!(f, "batch {n} has this id and another body"),
             EditFault::Broken { row, rule } => write!(f, "edit {row} breaks rule {rule}"),
+            EditFault::Keeper => write!(f, "the records of the batches couldn't be kept"),
             EditFault::Memory => write!(f, "out of memory"),
         }
     }
