@@ -4,22 +4,26 @@ use Rattle.std.proofs.lemmas.Grind.{flat_map-append}
 use Rattle.std.proofs.lemmas.List.{append_assoc, length-append, take_all, take-append-drop, length-take-le}
 use Rattle.std.proofs.Math.Seq.{take-append_seam, drop-append_seam}
 use Rattle.std.proofs.lemmas.List.Elements.{filter_map-append}
+use Rattle.std.proofs.lemmas.List.Folds.{list_any-append}
 use Rattle.std.proofs.lemmas.Option.{slice_get_within}
 use Rattle.std.specs.Prelude.{ℕ, ◌+◌, ◌-◌, ◌<◌, ◌≤◌, Bool, true, false, ◌||◌, List, [], ◌∷◌, ◌++◌, length, take, drop, Option, Some, None, slice_get}
+use Rattle.std.specs.BTreeMap.{is_at}
 use Rattle.std.specs.List.{AllByRecursion, filter_map, flat_map, enumerate_from}
 use Rattle.alto_rows.proofs.WriteLemmas.{after-append}
 use Rattle.alto_rows.specs.declared.key.Key.{Key}
 use Rattle.alto_rows.specs.declared.resource.Resource.{Resource}
 use Rattle.alto_rows.specs.Accepted.{Accepted}
+use Rattle.alto_rows.specs.Order.{key_cmp}
 use Rattle.alto_rows.specs.Rows.{Rows, after}
 use Rattle.alto_rows.specs.Versions.{version_of}
+use Rattle.tips_graph.proofs.KeySetLemmas.{key_set_has, key_set-same}
 use Rattle.tips_graph.specs.Graph.{Push}
 use Rattle.tips_graph.specs.Keys.{key_set}
 use Rattle.alto_book.specs.Book.{Book, state_at, rows_of, writes_in}
 use Rattle.alto_book.specs.Legal.{IsLegal}
 use Rattle.alto_book.specs.Numbers.{renews, touching, push_of, pushes_of}
+use Rattle.alto_book.proofs.ChangeLemmas.{has}
 use Rattle.alto_book.proofs.GivenLemmas.{touching-append}
-use Rattle.alto_book.proofs.KeySetLemmas.{has, has-append, has-key_set, same_key_sets}
 use Rattle.alto_book.proofs.OpeningLemmas.{version_of-opens}
 use Rattle.alto_book.proofs.PlaceLemmas.{version_of-next, quiet_at}
 use Rattle.alto_book.proofs.NumberLemmas.{version_of-later}
@@ -222,20 +226,20 @@ pub has-pushes : (book : Book) (of : Resource) (start : ℕ) (batches : List Acc
 has-pushes book of start [] at quiet = refl
 has-pushes book of start (batch ∷ batches) at quiet =
     ap (has at) (touching-append of batch.writes (writes_in batches))
-    ∙ (has-append at (touching of batch.writes) (touching of (writes_in batches))
+    ∙ (list_any-append (is_at (key_cmp at)) (touching of batch.writes) (touching of (writes_in batches))
     ∙ (ap (λ (b : Bool). has at (touching of batch.writes) || b) (has-pushes book of (start + 1) batches at quiet.1) ∙ by (renews of batch) refl))
   where
     by : (b : Bool) → renews of batch ≡ b
         → (has at (touching of batch.writes) || has at (keys_in (pushes_from book of (start + 1) batches))) ≡ has at (keys_in (pushes_from book of start (batch ∷ batches)))
     by true e =
-        rw (e, has-append at (key_set (touching of batch.writes)) (keys_in (pushes_from book of (start + 1) batches)), has-key_set at (touching of batch.writes)) refl
+        rw (e, list_any-append (is_at (key_cmp at)) (key_set (touching of batch.writes)) (keys_in (pushes_from book of (start + 1) batches)), key_set_has (touching of batch.writes) at) refl
     by false e = rw (e, quiet.0 e) refl
 
 -- so their sets are one
 pub key_set-pushes : (book : Book) (of : Resource) (start : ℕ) (batches : List Accepted) → AllByRecursion (IsQuiet of) batches
     → key_set (touching of (writes_in batches)) ≡ key_set (keys_in (pushes_from book of start batches))
 key_set-pushes book of start batches quiet =
-    same_key_sets (touching of (writes_in batches)) (keys_in (pushes_from book of start batches)) (λ at. has-pushes book of start batches at quiet)
+    key_set-same (touching of (writes_in batches)) (keys_in (pushes_from book of start batches)) (λ at. has-pushes book of start batches at quiet)
 
 -- once a resource has a version, each batch is such
 pub quiet_between : (book : Book) (of : Resource) (low high : ℕ) → IsLegal book → 1 ≤ version_of (state_at book low) of

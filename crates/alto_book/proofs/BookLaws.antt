@@ -1,7 +1,6 @@
 -- The laws of books, by the names of the functions that state them.
-use Rattle.alto_book.specs.Laws.{OpeningIsLegal, AcceptanceKeepsLegal, AcceptanceExtends, BookExtendsItself, ExtendingGoesOn, RefusalChangesNothing, KnownIdChangesNothing, ReceiptIsKept, LegalRowsAreGood, LegalStatesAreGood, LegalWritesFit, VersionsStaySmall, NoNumberTwice}
+use Rattle.alto_book.specs.Laws.{OpeningIsLegal, AcceptanceKeepsLegal, AcceptanceExtends, BookExtendsItself, ExtendingGoesOn, RefusalChangesNothing, KnownIdChangesNothing, ReceiptIsKept, LegalRowsAreGood, LegalStatesAreGood, LegalWritesFit, VersionsStaySmall}
 use Rattle.alto_book.proofs.AcceptanceLemmas.{accept_legal, accept_extends, extends_itself, extends_on, refused_leaves, known_leaves}
-use Rattle.alto_book.proofs.NumberLemmas.{numbers_rise}
 use Rattle.alto_book.proofs.FitLemmas.{writes_fit}
 use Rattle.alto_book.proofs.OpeningLemmas.{legal_opening}
 use Rattle.alto_book.proofs.RepeatLemmas.{accepted_again}
@@ -42,6 +41,3 @@ legal_writes_fit = writes_fit
 
 pub versions_stay_small : VersionsStaySmall
 versions_stay_small = version_of-rows_of
-
-pub no_number_twice : NoNumberTwice
-no_number_twice = numbers_rise

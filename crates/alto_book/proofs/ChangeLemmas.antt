@@ -4,7 +4,8 @@ use Rattle.std.proofs.lemmas.Bool.{both_ways}
 use Rattle.std.proofs.lemmas.List.{take-append-le}
 use Rattle.std.proofs.lemmas.List.Elements.{recursion_from_All}
 use Rattle.std.specs.Prelude.{ℕ, ◌≤◌, Bool, true, false, List, [], ◌∷◌, ◌++◌, length, Option, Some, None, IfSome, slice_get}
-use Rattle.std.specs.List.{AllByRecursion}
+use Rattle.std.specs.BTreeMap.{is_at}
+use Rattle.std.specs.List.{AllByRecursion, list_any}
 use Rattle.std.specs.Ordering.{is_eq}
 use Rattle.alto_rows.specs.declared.key.Key.{Key}
 use Rattle.alto_rows.specs.declared.key.Key.TheVariants as key
@@ -23,10 +24,13 @@ use Rattle.alto_book.specs.Laws.{IsOfBatch}
 use Rattle.alto_book.specs.Legal.{IsLegal}
 use Rattle.alto_book.specs.Numbers.{touching}
 use Rattle.alto_book.proofs.FitLemmas.{writes_fit}
-use Rattle.alto_book.proofs.KeySetLemmas.{has}
 use Rattle.alto_book.proofs.StateLemmas.{state_at-next, state_at-past, state_at-all, good_state}
 
 -- ---- keys that no write is of
+
+-- a key is among keys
+abbrev pub has : Key → List Key → Bool
+has key keys = list_any (is_at (key_cmp key)) keys
 
 -- a key that touches a resource and isn't among those that writes wrote is of none of them
 pub none_writes : (of : Resource) (at : Key) (writes : List Write) → touches of at ≡ true → has at (touching of writes) ≡ false → NoneWrites at writes

@@ -8,7 +8,6 @@ pub mod FitLemmas
 pub mod GivenLemmas
 pub mod GraphLemmas
 pub mod GrownLemmas
-pub mod KeySetLemmas
 pub mod MapLemmas
 pub mod NumberLemmas
 pub mod OpeningLemmas

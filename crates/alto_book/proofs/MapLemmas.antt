@@ -18,6 +18,7 @@ use Rattle.alto_rows.specs.Versions.{number_in, is_declared, version_of}
 use Rattle.alto_rules.specs.Versions.{is_written, is_touched}
 use Rattle.net_docs.specs.NetworkMap.{network_map}
 use Rattle.net_docs.proofs.KeysLemmas.{same_map}
+use Rattle.tips_graph.proofs.KeySetLemmas.{key_set_has}
 use Rattle.tips_graph.specs.Graph.{Push}
 use Rattle.alto_book.specs.Book.{Book, state_at, rows_of, writes_in}
 use Rattle.alto_book.specs.Legal.{Follows, IsLegal}
@@ -25,9 +26,8 @@ use Rattle.alto_book.specs.NumberLaws.{TouchedMapsGetNumbers, UntouchedMapStays,
 use Rattle.alto_book.specs.Numbers.{gives, touching, rows_at, batches_between, keys_between, pushes_of}
 use Rattle.alto_book.proofs.BatchLemmas.{is_declared-batch}
 use Rattle.alto_book.proofs.BetweenLemmas.{batches_from, state_at-between, pushes_between, pushes_from, keys_in, has-pushes, quiet_between}
-use Rattle.alto_book.proofs.ChangeLemmas.{none_writes, epoch_stays}
+use Rattle.alto_book.proofs.ChangeLemmas.{has, none_writes, epoch_stays}
 use Rattle.alto_book.proofs.GivenLemmas.{raised, gives-batch, renews-batch, version_of-renewed, none_touching, untouched_batch}
-use Rattle.alto_book.proofs.KeySetLemmas.{has, has-key_set}
 use Rattle.alto_book.proofs.PlaceLemmas.{IsGivenAt, HasPlace, equal, rows_at-given, version_of-given, declared_versioned}
 use Rattle.alto_book.proofs.PushLemmas.{place_now, given_in_order, batches_between-given}
 use Rattle.alto_book.proofs.StateLemmas.{state_at-next, state_at-all, good_state, good_rows}
@@ -61,7 +61,7 @@ numbers_differ book of i j legal low le high =
       epoch = same_epoch book (suc m) (suc n) legal;
       same = λ at t none. same_between book of (suc m) (suc n) at legal (omega arith) t
           (ap (λ (batches : List Accepted). has at (touching of (writes_in batches))) (sym (batches_between-given book of i j m n first last legal from upto))
-          ∙ (sym (has-key_set at (touching of (writes_in (batches_between book of i j)))) ∙ none));
+          ∙ (sym (key_set_has (touching of (writes_in (batches_between book of i j))) at) ∙ none));
       before = declared i m first from low;
       behind = declared j n last upto (omega arith);
     }

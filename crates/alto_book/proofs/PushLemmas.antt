@@ -14,7 +14,7 @@ use Rattle.tips_graph.specs.Graph.{Push}
 use Rattle.tips_graph.specs.Keys.{key_set}
 use Rattle.alto_book.specs.Book.{Book, state_at, rows_of, writes_in}
 use Rattle.alto_book.specs.Legal.{Follows, IsLegal}
-use Rattle.alto_book.specs.NumberLaws.{EachNumberIsGivenOnce, PushIsOfItsBatch, PushIsOfItsStep, KeysAreThoseOfThePushes}
+use Rattle.alto_book.specs.NumberLaws.{EachNumberIsGivenOnce, NoNumberTwice, PushIsOfItsBatch, PushIsOfItsStep, KeysAreThoseOfThePushes}
 use Rattle.alto_book.specs.Numbers.{gives, rows_at, touching, batches_between, keys_between, pushes_of}
 use Rattle.alto_book.proofs.BetweenLemmas.{slice_get-front, batches_from, batches_one, one_push, pushes_between, pushes_from, keys_in, key_set-pushes, quiet_between}
 use Rattle.alto_book.proofs.GivenLemmas.{raised, gives-batch, renews-batch}
@@ -114,6 +114,15 @@ push_at book of number place batch legal given =
 -- a number's push has the rows at the number, and the keys of its batch
 pub push_of_batch : PushIsOfItsBatch
 push_of_batch book of number n batch legal there gave = push_at book of number n batch legal (given_back book of number n batch legal there gave)
+
+-- a later batch gives a resource a higher number
+pub numbers_rise : NoNumberTwice
+numbers_rise book of m n earlier later low high legal less there behind gave more =
+    let first : IsGivenAt book of low m earlier = given_back book of low m earlier legal there gave in
+    let second : version_of (state_at book n) of + 1 ≡ high = (given_back book of high n later legal behind more).before in
+    let reached : version_of (state_at book (suc m)) of ≡ low = version_of-given book of low m earlier legal first in
+    let upto : version_of (state_at book (suc m)) of ≤ version_of (state_at book n) of = version_of-later book (suc m) n of legal less in
+    omega arith
 
 -- a lower number was given no later
 pub given_in_order : (book : Book) (of : Resource) (i j m n : ℕ) (first last : Accepted) → IsLegal book

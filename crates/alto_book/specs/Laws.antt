@@ -1,10 +1,9 @@
 -- What holds of every book, whatever imports come: the statements of the laws.
-use Rattle.std.specs.Prelude.{◌≡◌, ℕ, ◌<◌, ◌≤◌, List, length, All, Contains, IfSome, Some, Ok, Err, slice_get}
-use Rattle.alto_names.specs.Name.{IsEpoch, IsNetName, IsPidName}
+use Rattle.std.specs.Prelude.{◌≡◌, ℕ, ◌≤◌, List, length, All, IfSome, Some, Ok, Err, slice_get}
+use Rattle.alto_names.specs.Name.{IsEpoch, IsNetName}
 use Rattle.alto_rows.specs.declared.key.Key.{Key}
 use Rattle.alto_rows.specs.declared.key.Key.TheVariants as key
 use Rattle.alto_rows.specs.declared.resource.Resource.{Resource}
-use Rattle.alto_rows.specs.declared.value.Value.TheVariants as value
 use Rattle.alto_rows.specs.Accepted.{Accepted}
 use Rattle.alto_rows.specs.Good.{Fits, AreGood}
 use Rattle.alto_rows.specs.Order.{net_of}
@@ -15,7 +14,7 @@ use Rattle.alto_book.specs.declared.fault.EditFault.{EditFault}
 use Rattle.alto_book.specs.Acceptance.{known, accept}
 use Rattle.alto_book.specs.Book.{Book, Extends, opening_book, state_at, rows_of}
 use Rattle.alto_book.specs.Import.{Import}
-use Rattle.alto_book.specs.Legal.{IsLegal}
+use Rattle.alto_book.specs.Legal.{IsOfEdit, IsLegal}
 
 -- a new book is legal
 abbrev pub OpeningIsLegal : Type 0
@@ -58,13 +57,10 @@ LegalRowsAreGood = (book : Book) → IsLegal book → AreGood (rows_of book)
 abbrev pub LegalStatesAreGood : Type 0
 LegalStatesAreGood = (book : Book) (n : ℕ) → IsLegal book → AreGood (state_at book n)
 
--- a key that a batch may write: not the epoch or the window, and its names are of their alphabets
+-- a key that a batch may write: that of a version, or one that an edit may write
 abbrev pub IsOfBatch : Key → Type 0
-IsOfBatch key.Epoch = ⊥
-IsOfBatch key.Window = ⊥
-IsOfBatch (key.Net net) = IsNetName net
-IsOfBatch (key.Pid net pid) = IsNetName net × IsPidName pid
 IsOfBatch (key.Seq of) = IsNetName (net_of of)
+IsOfBatch at = IsOfEdit at
 
 -- each write of a batch of a legal book has a key that batches may write and, where it puts a value, one that fits
 abbrev pub LegalWritesFit : Type 0
@@ -74,13 +70,3 @@ LegalWritesFit = (book : Book) (n : ℕ) (batch : Accepted) → IsLegal book →
 -- no version of a legal book is above the number of its batches
 abbrev pub VersionsStaySmall : Type 0
 VersionsStaySmall = (book : Book) (of : Resource) → IsLegal book → version_of (rows_of book) of ≤ length book.batches
-
--- a batch gives a resource this number
-abbrev pub Numbers : Accepted → Resource → ℕ → Type 0
-Numbers batch of number = Contains batch.writes (record { key = key.Seq of; value = Some (value.Num number) })
-
--- a later batch gives a resource a higher number
-abbrev pub NoNumberTwice : Type 0
-NoNumberTwice = (book : Book) (of : Resource) (m n : ℕ) (earlier later : Accepted) (low high : ℕ) → IsLegal book → m < n
-    → slice_get book.batches m ≡ Some earlier → slice_get book.batches n ≡ Some later
-    → Numbers earlier of low → Numbers later of high → low < high

@@ -38,6 +38,12 @@ abbrev pub EachNumberIsGivenOnce : Type 0
 EachNumberIsGivenOnce = (book : Book) (of : Resource) (number : ℕ) → IsLegal book → 1 ≤ number → number ≤ version_of (rows_of book) of
     → IsGivenOnce book of number
 
+-- a later batch gives a resource a higher number
+abbrev pub NoNumberTwice : Type 0
+NoNumberTwice = (book : Book) (of : Resource) (m n : ℕ) (earlier later : Accepted) (low high : ℕ) → IsLegal book → m < n
+    → slice_get book.batches m ≡ Some earlier → slice_get book.batches n ≡ Some later
+    → gives of low earlier ≡ true → gives of high later ≡ true → low < high
+
 -- a batch that writes a key of a declared network's map gives the map a number, and the network's property map
 abbrev pub TouchedMapsGetNumbers : Type 0
 TouchedMapsGetNumbers = (book : Book) (net : List ℕ) (n : ℕ) (batch : Accepted) → IsLegal book → slice_get book.batches n ≡ Some batch

@@ -1,6 +1,6 @@
 //! What holds of every book, whatever imports come. Each law is the contract of a function that does nothing.
 
-ghost use Rattle.alto_book.specs.Laws.{OpeningIsLegal, AcceptanceKeepsLegal, AcceptanceExtends, BookExtendsItself, ExtendingGoesOn, RefusalChangesNothing, KnownIdChangesNothing, ReceiptIsKept, LegalRowsAreGood, LegalStatesAreGood, LegalWritesFit, VersionsStaySmall, NoNumberTwice};
+ghost use Rattle.alto_book.specs.Laws.{OpeningIsLegal, AcceptanceKeepsLegal, AcceptanceExtends, BookExtendsItself, ExtendingGoesOn, RefusalChangesNothing, KnownIdChangesNothing, ReceiptIsKept, LegalRowsAreGood, LegalStatesAreGood, LegalWritesFit, VersionsStaySmall};
 
 /// A new book is legal.
 pub fn opening_is_legal()
@@ -44,9 +44,4 @@ pub fn legal_writes_fit()
 /// No version is above the number of batches.
 pub fn versions_stay_small()
     ensures { VersionsStaySmall }
-{}
-
-/// A later batch gives a resource a higher number, so none is given twice.
-pub fn no_number_twice()
-    ensures { NoNumberTwice }
 {}
