@@ -13,6 +13,7 @@ pub mod NumberLemmas
 pub mod OpeningLemmas
 pub mod PlaceLemmas
 pub mod PushLemmas
+pub mod RefusalLemmas
 pub mod RepeatLemmas
 pub mod SameLemmas
 pub mod SequenceLemmas

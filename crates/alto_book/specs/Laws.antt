@@ -1,5 +1,5 @@
 -- What holds of every book, whatever imports come: the statements of the laws.
-use Rattle.std.specs.Prelude.{◌≡◌, ℕ, ◌≤◌, List, length, All, IfSome, Some, Ok, Err, slice_get}
+use Rattle.std.specs.Prelude.{◌≡◌, ℕ, ◌≤◌, List, length, All, IfSome, IfErr, Some, Ok, Err, ⊤, slice_get}
 use Rattle.alto_names.specs.Name.{IsEpoch, IsNetName}
 use Rattle.alto_rows.specs.declared.key.Key.{Key}
 use Rattle.alto_rows.specs.declared.key.Key.TheVariants as key
@@ -11,6 +11,7 @@ use Rattle.alto_rows.specs.Versions.{version_of}
 use Rattle.alto_rules.specs.Rules.{IsEdit}
 use Rattle.alto_book.specs.declared.command.Receipt.{Receipt}
 use Rattle.alto_book.specs.declared.fault.EditFault.{EditFault}
+use Rattle.alto_book.specs.declared.fault.EditFault.TheVariants as fault
 use Rattle.alto_book.specs.Acceptance.{known, accept}
 use Rattle.alto_book.specs.Book.{Book, Extends, opening_book, state_at, rows_of}
 use Rattle.alto_book.specs.Import.{Import}
@@ -38,7 +39,18 @@ ExtendingGoesOn = (first second third : Book) → Extends second first → Exten
 
 -- a refused import leaves the book as it was
 abbrev pub RefusalChangesNothing : Type 0
-RefusalChangesNothing = (book : Book) (import : Import) (moment : ℕ) (fault : EditFault) → (accept book import moment).answer ≡ Err fault → (accept book import moment).book ≡ book
+RefusalChangesNothing = (book : Book) (import : Import) (moment : ℕ) (why : EditFault) → (accept book import moment).answer ≡ Err why → (accept book import moment).book ≡ book
+
+-- a fault of the import itself: its id has another body, or its edits break a rule
+abbrev pub IsOfImport : EditFault → Type 0
+IsOfImport (fault.OtherBody n) = ⊤
+IsOfImport (fault.Broken row rule) = ⊤
+IsOfImport fault.Keeper = ⊥
+IsOfImport fault.Memory = ⊥
+
+-- an import is refused for its own fault alone
+abbrev pub RefusalIsOfTheImport : Type 0
+RefusalIsOfTheImport = (book : Book) (import : Import) (moment : ℕ) → IfErr (accept book import moment).answer IsOfImport
 
 -- an import whose id has a batch leaves the book as it was
 abbrev pub KnownIdChangesNothing : Type 0

@@ -1,6 +1,6 @@
 //! What holds of every book, whatever imports come. Each law is the contract of a function that does nothing.
 
-ghost use Rattle.alto_book.specs.Laws.{OpeningIsLegal, AcceptanceKeepsLegal, AcceptanceExtends, BookExtendsItself, ExtendingGoesOn, RefusalChangesNothing, KnownIdChangesNothing, ReceiptIsKept, LegalRowsAreGood, LegalStatesAreGood, LegalWritesFit, VersionsStaySmall};
+ghost use Rattle.alto_book.specs.Laws.{OpeningIsLegal, AcceptanceKeepsLegal, AcceptanceExtends, BookExtendsItself, ExtendingGoesOn, RefusalChangesNothing, KnownIdChangesNothing, RefusalIsOfTheImport, ReceiptIsKept, LegalRowsAreGood, LegalStatesAreGood, LegalWritesFit, VersionsStaySmall};
 
 /// A new book is legal.
 pub fn opening_is_legal()
@@ -19,10 +19,11 @@ pub fn acceptance_extends()
     ensures more_imports { ExtendingGoesOn }
 {}
 
-/// An import that is refused, or whose id is known, changes nothing.
+/// An import that is refused, or whose id is known, changes nothing. It is refused for its own fault alone.
 pub fn acceptance_is_refused_whole()
     ensures refused { RefusalChangesNothing }
     ensures known { KnownIdChangesNothing }
+    ensures cause { RefusalIsOfTheImport }
 {}
 
 /// An import that was accepted may be sent again at any time: it is told its receipt, and is not accepted twice.

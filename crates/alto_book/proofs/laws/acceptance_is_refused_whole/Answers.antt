@@ -1,4 +1,5 @@
 use Rattle.alto_book.proofs.BookLaws.{refusal_changes_nothing, known_id_changes_nothing}
+use Rattle.alto_book.proofs.RefusalLemmas.{refused_for_itself}
 use Rattle.alto_book.proofs.laws.acceptance_is_refused_whole.Goals as goal
 
 pub returns-clause-refused : goal.returns-clause-refused
@@ -6,3 +7,6 @@ returns-clause-refused c = refusal_changes_nothing
 
 pub returns-clause-known : goal.returns-clause-known
 returns-clause-known c = known_id_changes_nothing
+
+pub returns-clause-cause : goal.returns-clause-cause
+returns-clause-cause c = refused_for_itself
