@@ -13,12 +13,10 @@ use Rattle.alto_rules.specs.Compiled.{before, unless_broken, edits_writes, broke
 use Rattle.alto_rules.specs.Rules.{broken_rule, writes_of}
 use Rattle.alto_rules.specs.Versions.{sequence_writes}
 use Rattle.alto_book.specs.declared.command.Receipt.{Receipt}
-use Rattle.alto_book.specs.declared.fault.EditFault.{EditFault}
 use Rattle.alto_book.specs.declared.fault.EditFault.TheVariants as fault
 use Rattle.alto_book.specs.Acceptance.{known, past_of, answer_known, accept_new, accept_unless_known, accept}
-use Rattle.alto_book.specs.Book.{Book, rows_of}
+use Rattle.alto_book.specs.Book.{rows_of}
 use Rattle.alto_book.specs.Faults.{edit_fault}
-use Rattle.alto_book.specs.Import.{Import}
 use Rattle.alto_book.specs.Laws.{IsOfImport, RefusalIsOfTheImport}
 
 -- edits make writes, or are at fault themselves

@@ -1,29 +1,26 @@
 -- What the updates graph of a declared resource tells.
-use Rattle.std.proofs.Common.{◌≡◌, ◌≢◌, ℕ, ◌+◌, ◌-◌, ◌<◌, ◌≤◌, ◌==◌, if◌then◌else◌, true, false, List, length, take, drop, Option, Some, None, refl, ap, sym, subst, ◌∙◌, arith}
-use Rattle.std.specs.Prelude.{slice_get, option_map, nat_lt, is_some, IfSome, IsTrue}
+use Rattle.std.proofs.Common.{◌≡◌, ℕ, ◌+◌, ◌-◌, ◌<◌, ◌≤◌, if◌then◌else◌, true, false, take, drop, Option, Some, None, refl, ap, sym, ◌∙◌, arith}
+use Rattle.std.specs.Prelude.{option_map, nat_lt, is_some, IfSome, IsTrue}
 use Rattle.std.specs.List.{flat_map}
 use Rattle.std.proofs.lemmas.Bool.Decides.{nat_tests}
-use Rattle.alto_rows.specs.declared.resource.Resource.{Resource}
 use Rattle.alto_rows.specs.declared.key.Key.TheVariants as key
 use Rattle.alto_rows.specs.declared.value.Value.{Value}
 use Rattle.alto_rows.specs.declared.value.Value.TheVariants as value
 use Rattle.alto_rows.specs.Good.{AreGood, Fits}
 use Rattle.alto_rows.specs.Rows.{Rows, value_of}
-use Rattle.alto_rows.specs.Versions.{is_declared, number_in, version_of, window_of}
+use Rattle.alto_rows.specs.Versions.{number_in, version_of, window_of}
 use Rattle.tips_graph.specs.declared.status.EdgeStatus.{EdgeStatus}
 use Rattle.tips_graph.specs.declared.status.EdgeStatus.TheVariants.{Absent, Gone, Awaited, Ahead, Here}
 use Rattle.tips_graph.specs.Edges as edges
-use Rattle.tips_graph.specs.Graph.{GraphData, Push, graph_of, first_of, keeps, span_of, status_of, is_step_here}
+use Rattle.tips_graph.specs.Graph.{GraphData, Push, first_of, keeps, span_of, status_of, is_step_here}
 use Rattle.tips_graph.specs.Graph.{rows_at as graph_rows}
 use Rattle.tips_graph.specs.Keys.{key_set}
 use Rattle.tips_graph.proofs.GraphLaws.{rows_of_the_push, span_of_the_pushes}
 use Rattle.tips_graph.proofs.SpanLemmas.{IsStep, step_here}
-use Rattle.alto_book.specs.Book.{Book, rows_of}
-use Rattle.alto_book.specs.Legal.{IsLegal}
-use Rattle.alto_book.specs.NumberLaws.{TellsNumbers, GraphTellsNumbers}
+use Rattle.alto_book.specs.Book.{rows_of}
+use Rattle.alto_book.specs.NumberLaws.{GraphTellsNumbers}
 use Rattle.alto_book.specs.Numbers.{batches_to, first_kept, keys_between, pushes_of, rows_at, status_at, updates_graph}
 use Rattle.alto_book.proofs.BetweenLemmas.{length-pushes_of}
-use Rattle.alto_book.proofs.ChangeLemmas.{window_of-base}
 use Rattle.alto_book.proofs.MapLemmas.{numbers_differ, versioned}
 use Rattle.alto_book.proofs.PlaceLemmas.{HasPlace}
 use Rattle.alto_book.proofs.PushLemmas.{keys_of_pushes, place_now, push_at}
