@@ -4,13 +4,12 @@ use Rattle.std.specs.BTreeMap.{is_at}
 use Rattle.std.specs.List.{list_any}
 use Rattle.std.proofs.lemmas.List.{drop-map}
 use Rattle.std.proofs.lemmas.List.Folds.{list_any-append}
-use Rattle.std.specs.Map.{lookup}
 use Rattle.std.specs.Ordering.{is_eq}
 use Rattle.std.specs.declared.cmp.Ordering.{Ordering}
 use Rattle.std.specs.declared.cmp.Ordering.TheVariants.{Less, Equal, Greater}
 use Rattle.alto_rows.specs.declared.resource.Resource.{Resource}
 use Rattle.alto_rows.specs.declared.resource.Resource.TheVariants as resource
-use Rattle.alto_rows.specs.Order.{name_cmp, resource_cmp}
+use Rattle.alto_rows.specs.Order.{resource_cmp}
 use Rattle.alto_rows.specs.Rows.{Rows}
 use Rattle.alto_rows.specs.Versions.{is_declared}
 use Rattle.alto_rows.proofs.OrderLemmas.{resource_cmp_exact}

@@ -211,7 +211,8 @@ fn edges_have_the_statuses_of_the_table(rt: HostRuntime) -> Result<(), Fail> {
 fn a_graph_has_the_rows_at_each_kept_number(rt: HostRuntime) -> Result<(), Fail> {
     let alloc = rt.alloc();
     let desk = five_imports(alloc)?;
-    let Some((_, graph)) = desk.front().graphs.first() else {
+    let metro = Resource::Net(NetName::read(alloc, b"metro")?);
+    let Some(graph) = desk.front().graph(&metro) else {
         return Err(Fail::new("the graph is missing"));
     };
     for (number, pid, told) in [
@@ -223,7 +224,7 @@ fn a_graph_has_the_rows_at_each_kept_number(rt: HostRuntime) -> Result<(), Fail>
         (4, b"north", Some(true)),
         (5, b"north", None),
     ] {
-        let found = declares(alloc, &**graph, number, pid)?;
+        let found = declares(alloc, graph, number, pid)?;
         assert!(rt; found == told, "{number} {pid:?}");
     }
     Ok(())
