@@ -48,6 +48,11 @@ const LINES: &[(&str, &[u8], &str)] = &[
         "BadColumn(1, 2)",
     ),
     (
+        "CR LF in quotes",
+        b"net-add,\"metro\r\n\",,,,\r\n",
+        "BadColumn(1, 2)",
+    ),
+    (
         "doubled quotes in quotes",
         b"net-add,\"\"\"metro\"\"\",,,,\n",
         "BadColumn(1, 2)",
@@ -61,6 +66,16 @@ const LINES: &[(&str, &[u8], &str)] = &[
         "a lone quote within a field",
         b"net-add,me\"tro,,,,\n",
         "BadColumn(1, 2)",
+    ),
+    (
+        "a lone quote at a field's end",
+        b"net-add,metro\",,,,\n",
+        "BadColumn(1, 2)",
+    ),
+    (
+        "a lone quote in the last field",
+        b"net-add,metro,,,,\"\n",
+        "BadColumn(1, 6)",
     ),
     (
         "a lone quote that nothing closes",
@@ -139,6 +154,7 @@ const FIRST_LINES: &[(&str, &[u8], &str)] = &[
         "net-add metro;",
     ),
     ("a header line alone", b"op,net,a,b,c,d\n", "Empty"),
+    ("a header line without an end", b"op,net,a,b,c,d", "Empty"),
     (
         "a header line isn't counted",
         b"op,net,a,b,c,d\nnet-put,metro,,,,\n",
@@ -147,6 +163,11 @@ const FIRST_LINES: &[(&str, &[u8], &str)] = &[
     (
         "two header lines",
         b"op,net,a,b,c,d\nop,net,a,b,c,d\nnet-add,metro,,,,\n",
+        "BadColumn(1, 1)",
+    ),
+    (
+        "two header lines, the second in quotes",
+        b"op,net,a,b,c,d\n\"op\",\"net\",\"a\",\"b\",\"c\",\"d\"\n",
         "BadColumn(1, 1)",
     ),
     (
@@ -170,6 +191,11 @@ const FIRST_LINES: &[(&str, &[u8], &str)] = &[
         "BadRecord(1)",
     ),
     (
+        "a header line of seven fields",
+        b"op,net,a,b,c,d,\n",
+        "BadRecord(1)",
+    ),
+    (
         "a byte order mark",
         b"\xef\xbb\xbfnet-add,metro,,,,\n",
         "net-add metro;",
@@ -177,6 +203,11 @@ const FIRST_LINES: &[(&str, &[u8], &str)] = &[
     (
         "a byte order mark before a header line",
         b"\xef\xbb\xbfop,net,a,b,c,d\nnet-add,metro,,,,\n",
+        "net-add metro;",
+    ),
+    (
+        "a byte order mark before quotes",
+        b"\xef\xbb\xbf\"op\",net,a,b,c,d\nnet-add,metro,,,,\n",
         "net-add metro;",
     ),
     ("a byte order mark alone", b"\xef\xbb\xbf", "Empty"),
@@ -206,6 +237,16 @@ const FIELDS: &[(&str, &[u8], &str)] = &[
         "five fields behind six",
         b"net-add,metro,,,,\nnet-add,rural,,,\n",
         "BadRecord(2)",
+    ),
+    (
+        "seven fields behind six",
+        b"net-add,metro,,,,\nnet-add,rural,,,,,\n",
+        "BadRecord(2)",
+    ),
+    (
+        "five fields that aren't UTF-8",
+        b"net-add,\xff,,,\n",
+        "BadRecord(1)",
     ),
     (
         "an unknown operation",
@@ -305,6 +346,11 @@ const PIDS: &[(&str, &[u8], &str)] = &[
         "BadColumn(1, 4)",
     ),
     (
+        "a quote in an empty column",
+        b"net-add,metro,,,\"\"\"\",\n",
+        "BadColumn(1, 5)",
+    ),
+    (
         "bytes that aren't UTF-8 in an empty column",
         b"pid-add,metro,east,,\xff,\n",
         "BadColumn(1, 5)",
@@ -380,6 +426,11 @@ const OBJECTS: &[(&str, &[u8], &str)] = &[
         "pid-add metro east;",
     ),
     (
+        "a PID of 64 characters",
+        b"{\"edits\":[[\"pid-add\",\"metro\",\"pppppppppppppppppppppppppppppppppppppppppppppppppppppppppppppppp\"]]}",
+        "pid-add metro pppppppppppppppppppppppppppppppppppppppppppppppppppppppppppppppp;",
+    ),
+    (
         "two items",
         b"{\"edits\":[[\"net-add\",\"metro\"],[\"pid-add\",\"metro\",\"e:1@x\"]]}",
         "net-add metro;pid-add metro e:1@x;",
@@ -441,6 +492,17 @@ const OTHER_BODIES: &[(&str, &[u8], &str)] = &[
         b"{\"edits\":[[\"net-add\",\"m\xff\"]]}",
         "Syntax",
     ),
+    (
+        "half of a pair of escapes",
+        b"{\"edits\":[[\"net-add\",\"m\\ud800\"]]}",
+        "Syntax",
+    ),
+    (
+        "a comma behind the last item",
+        b"{\"edits\":[[\"net-add\",\"metro\"],]}",
+        "Syntax",
+    ),
+    ("blanks alone", b" \r\n", "Syntax"),
     (
         "a byte order mark",
         b"\xef\xbb\xbf{\"edits\":[[\"net-add\",\"metro\"]]}",
@@ -565,6 +627,11 @@ const ITEMS: &[(&str, &[u8], &str)] = &[
         "a PID that is left out",
         b"{\"edits\":[[\"net-add\",\"metro\"],[\"pid-add\",\"metro\"]]}",
         "BadColumn(2, 3)",
+    ),
+    (
+        "a PID of 65 characters",
+        b"{\"edits\":[[\"pid-add\",\"metro\",\"ppppppppppppppppppppppppppppppppppppppppppppppppppppppppppppppppp\"]]}",
+        "BadColumn(1, 3)",
     ),
     (
         "a value in an empty column",
