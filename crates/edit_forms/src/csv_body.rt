@@ -12,8 +12,13 @@ use alto_rules::Edit;
 use csv::ByteRecord;
 use std::alloc::Global;
 
-/// Reads a CSV body (RFC 4180): the edits of its records, past a byte order mark and a header line. The fault is the
-/// first in the order of rows and columns. The time is linear in the body.
+/// Reads a CSV body (RFC 4180): the edits of its records, past a byte order mark and a header line. The time is linear in
+/// the body.
+///
+/// # Errors
+///
+/// The first fault in the order of rows and columns, a record that hasn't six fields being `BadRecord`; `Empty` where there
+/// is no record.
 pub fn read_csv(alloc: Global, body: &[u8]) -> Result<Vec<Edit>, FormFault>
     ensures ok { IfOk result (λ edits. csv_edits body.now ≡ Ok edits.items) }
     ensures err { IfErr result (λ fault. fault ≢ FormFault.Memory → csv_edits body.now ≡ Err fault) }

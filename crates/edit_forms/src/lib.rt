@@ -13,10 +13,9 @@ mod fault;
 mod json_body;
 mod operation;
 mod records;
+#[cfg(test)]
+mod tests;
 
 pub use csv_body::read_csv;
 pub use fault::FormFault;
 pub use json_body::read_json;
-
-#[cfg(test)]
-mod tests;
