@@ -16,7 +16,7 @@ abbrev pub pid_in : List ℕ → Key × Value → Option (List ℕ)
 pid_in net (key.Pid of pid, _) = if same_name net of then Some pid else None
 pid_in net _ = None
 
--- the PIDs of a network, in the byte order of their names
+-- the PIDs of a network, in the order of the rows
 abbrev pub pids_of : Rows → List ℕ → List (List ℕ)
 pids_of rows net = filter_map (pid_in net) rows
 

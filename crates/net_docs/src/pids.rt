@@ -10,7 +10,11 @@ use json_tree::{Members, Tree};
 use std::alloc::{AllocError, Global};
 
 /// The groups of a network map: each PID of the network, without endpoints. One walk over the rows of these PIDs.
-pub fn groups<R: RowStore>(alloc: Global, rows: &R, net: &NetName) -> Result<Tree, AllocError>
+pub(crate) fn groups<R: RowStore>(
+    alloc: Global,
+    rows: &R,
+    net: &NetName,
+) -> Result<Tree, AllocError>
     requires { AreGood (R.rows rows.now) }
     ensures { IfOk result (λ tree. data_of tree ≡ spec.groups (R.rows rows.now) net.now) }
 {
