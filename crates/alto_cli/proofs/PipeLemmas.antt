@@ -4,7 +4,7 @@ use Rattle.alto_book.specs.Book.{Book, opening_book}
 use Rattle.alto_serve.specs.Connections.{Ended}
 use Rattle.alto_serve.specs.declared.end.End.{End}
 use Rattle.alto_serve.specs.declared.end.End.TheVariants as end
-use Rattle.alto_serve.specs.declared.route.Side.TheVariants as side
+use Rattle.alto_answers.specs.declared.route.Side.TheVariants as side
 use Rattle.alto_serve.specs.Steps.{Writes}
 use Rattle.alto_serve.specs.Told.{Brings, Tally, account}
 use Rattle.alto_serve.specs.Turns.{setting_of}
@@ -28,7 +28,7 @@ piped ended time turns (Some bytes) left out out' tally tally' book served = (
 pub piped_never : (given left out : Option (List ℕ)) (time : Option ℕ) (turns : ℕ)
     → IfSome given (λ bytes. Writes (Pipes 1 time turns bytes left) out out)
 piped_never given left out time turns =
-    let none : Tally = record { looks = 0; waits = 0; numbers = None } in
+    let none : Tally = record { looks = 0; waits = 0; faults = 0; numbers = None } in
     let book : Book = opening_book (codes "e1") 8 in
     piped end.Memory time turns given left out out none none book
     (served_never (setting_of side.Both time true turns) given left (account out none) book)

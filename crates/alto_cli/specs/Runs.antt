@@ -3,7 +3,7 @@ use Rattle.std.specs.Prelude.{◌≡◌, ◌⊎◌, ℕ, true, List, take, Optio
 use Rattle.alto_book.specs.Book.{Book, opening_book}
 use Rattle.alto_serve.specs.Connections.{Ended}
 use Rattle.alto_serve.specs.declared.end.End.{End}
-use Rattle.alto_serve.specs.declared.route.Side.TheVariants as side
+use Rattle.alto_answers.specs.declared.route.Side.TheVariants as side
 use Rattle.alto_serve.specs.Told.{Told}
 use Rattle.alto_serve.specs.Turns.{setting_of}
 use Rattle.alto_cli.specs.Status.{status_of}

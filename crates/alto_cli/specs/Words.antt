@@ -1,6 +1,6 @@
 -- The words that the program takes.
 use Rattle.std.specs.Prelude.{ℕ, nat_le, ◌&&◌, List, [], ◌∷◌, Option, Some, None, option_and_then, if◌then◌else◌, codes, bytes_eq}
-use Rattle.alto_serve.specs.Edges.{edge_number}
+use Rattle.alto_answers.specs.Edges.{edge_number}
 
 -- how often a connection waits for an awaited edge, where nothing else is said
 abbrev pub usual_turns : ℕ

@@ -10,7 +10,7 @@ use Rattle.alto_serve.specs.declared.end.End.TheVariants as end
 use Rattle.alto_serve.specs.Connections.{AnswersAll, LeadsTo, Serves, ServesAll, IsWithin, Ended, last_words, most_requests}
 use Rattle.alto_serve.specs.Steps.{GoesOn, Finishes, HasServed}
 use Rattle.alto_serve.specs.Told.{Told, Account, Brings, account_after, both, nothing, only_written}
-use Rattle.alto_serve.specs.Turns.{Setting, IsBegun, TakesTurn}
+use Rattle.alto_serve.specs.Turns.{Setting, TakesTurn}
 use Rattle.alto_serve.proofs.ToldLemmas.{account_more, account_none, both_all, both_nothing, nothing_both}
 
 -- one request more is replied to
@@ -189,7 +189,7 @@ ends_now end.WriteFault setting bytes left before count rest replies told betwee
   size = size;
   ends = ap (λ t. both replies t) cut_off;
 }
-ends_now end.Memory setting bytes left before count rest replies told between after serves few (begun, silent, words, effect) = record {
+ends_now end.Memory setting bytes left before count rest replies told between after serves few (begun, wants, words) = record {
   count = count;
   few = few;
   rest = rest;
@@ -197,8 +197,7 @@ ends_now end.Memory setting bytes left before count rest replies told between af
   between = between;
   serves = serves;
   begun = begun;
-  silent = silent;
-  effect = effect;
+  wants = wants;
   ends = inl (ap (λ t. both replies t) words);
 }
 
@@ -236,10 +235,6 @@ served_most setting (Some bytes) left' before count left first later after all s
   ),
 )
 
--- nothing was begun
-pub begun_nothing : (turns : ℕ) → IsBegun turns nothing
-begun_nothing turns = record { silent = refl; waits = omega arith; looks = omega arith; numbers = omega arith }
-
 -- memory was wanting before the first request
 pub served_never : (setting : Setting) (given left' : Option (List ℕ)) (first : Account) (book : Book)
     → IfSome given (λ bytes. Brings (λ told. Ended end.Memory setting bytes left' book told book) first first)
@@ -255,8 +250,7 @@ served_never setting (Some bytes) left' first book = (
     between = book;
     serves = record { requests = []; counted = refl; leads = refl; answered = (refl, refl) };
     begun = nothing;
-    silent = begun_nothing setting.turns;
-    effect = inl refl;
+    wants = inl (refl, refl);
     ends = inr (refl, refl, refl);
   },
 )

@@ -1,9 +1,4 @@
-pub mod AuthorityLemmas
 pub mod ConnectionLemmas
-pub mod EdgeLemmas
-pub mod EdgeNumberLemmas
-pub mod HeldLemmas
 pub mod StepLemmas
 pub mod ToldLemmas
 pub mod TurnLemmas
-pub mod ViewLemmas

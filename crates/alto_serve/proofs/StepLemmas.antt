@@ -10,19 +10,14 @@ use Rattle.alto_http.specs.declared.fault.HeadFault.{HeadFault}
 use Rattle.alto_http.specs.declared.fault.HeadFault.TheVariants as head
 use Rattle.alto_serve.specs.declared.end.End.{End}
 use Rattle.alto_serve.specs.declared.end.End.TheVariants as end
-use Rattle.alto_serve.specs.Connections.{MayTakeEffect, cut_off}
-use Rattle.alto_serve.specs.Replies.{head_status}
-use Rattle.alto_serve.specs.Reply.{memory_reply}
-use Rattle.alto_serve.specs.Steps.{Finishes, Responds, Refuses, WantsMemory, Writes}
+use Rattle.alto_serve.specs.Connections.{cut_off}
+use Rattle.alto_replies.specs.Replies.{head_status}
+use Rattle.alto_replies.specs.Reply.{memory_reply}
+use Rattle.alto_serve.specs.Steps.{Finishes, Responds, Refuses, TellsMemory, Writes}
 use Rattle.alto_serve.specs.Told.{Told, Tally, Account, Brings, Counts, account, account_after, both, only_written, nothing, tally_after}
-use Rattle.alto_serve.specs.Turns.{Setting, HasEffectOrNone, IsBegun, TakesTurn}
-use Rattle.alto_serve.proofs.ConnectionLemmas.{begun_nothing}
+use Rattle.alto_serve.specs.Turns.{Setting, IsBegun, TakesTurn}
 use Rattle.alto_serve.proofs.ToldLemmas.{out_none, same_account, same_told, tally_more, tally_none, tally_written}
-
--- the request's effect is that of the next request
-effect_next : (setting : Setting) (rest : List ℕ) (request : RequestData) (behind : List ℕ) (before after : Book)
-    → Begins rest request behind → HasEffectOrNone setting request before after → MayTakeEffect setting rest before after
-effect_next setting rest request behind before after begins effect = inr (request, behind, begins, effect)
+use Rattle.alto_serve.proofs.TurnLemmas.{begun_silent}
 
 responds_now : (ended : End) (setting : Setting) (rest : List ℕ) (left : Option (List ℕ)) (request : RequestData) (behind : List ℕ)
     (before : Book) (told : Told) (after : Book)
@@ -30,10 +25,10 @@ responds_now : (ended : End) (setting : Setting) (rest : List ℕ) (left : Optio
 responds_now end.Closed setting rest left request behind before told after begins (closes, replied) = inr (request, behind, begins, closes, replied)
 responds_now end.WriteFault setting rest left request behind before told after begins (whole, size, front, inl replied) =
     (whole, size, inl (request, behind, begins, replied), front)
-responds_now end.WriteFault setting rest left request behind before told after begins (whole, size, front, inr (begun, silent, words, effect)) =
-    (whole, size, inr (inr (begun, silent, words, effect_next setting rest request behind before after begins effect)), front)
-responds_now end.Memory setting rest left request behind before told after begins (begun, silent, words, effect) =
-    (begun, silent, words, effect_next setting rest request behind before after begins effect)
+responds_now end.WriteFault setting rest left request behind before told after begins (whole, size, front, inr (begun, is, words)) =
+    (whole, size, inr (inr (begun, inr (request, behind, begins, is), words)), front)
+responds_now end.Memory setting rest left request behind before told after begins (begun, is, words) =
+    (begun, inr (request, behind, begins, is), words)
 responds_now end.Cut setting rest left request behind before told after begins none = absurd none
 responds_now end.ReadFault setting rest left request behind before told after begins none = absurd none
 responds_now end.Limit setting rest left request behind before told after begins none = absurd none
@@ -85,11 +80,11 @@ refuses_now end.WriteFault setting fault rest ahead left left' book written whol
 refuses_now end.WriteFault setting fault rest ahead left left' book written whole refusal inside unfinished (text, size, front, inr memory) = (
   only_written text,
   size,
-  inr (inr (nothing, begun_nothing setting.turns, ap (λ w. only_written w) memory, inl refl)),
+  inr (inr (nothing, inl (refl, refl), ap (λ w. only_written w) memory)),
   ap (λ w. only_written w) front,
 )
 refuses_now end.Memory setting fault rest ahead left left' book written whole refusal inside unfinished words =
-    (nothing, begun_nothing setting.turns, ap (λ w. only_written w) words, inl refl)
+    (nothing, inl (refl, refl), ap (λ w. only_written w) words)
 refuses_now end.Cut setting fault rest ahead left left' book written whole refusal inside unfinished (is, words) =
     (inside is, ap (λ w. only_written w) words, refl)
 refuses_now end.ReadFault setting fault rest ahead left left' book written whole refusal inside unfinished (is, words) =
@@ -116,29 +111,30 @@ refuse_ends ended setting fault ahead (Some left) left' left'' book out mid late
 
 -- memory was wanting for it, and that is told
 pub memory_ends : (ended : End) (setting : Setting) (request : RequestData) (before after : Book) (out out' : Option (List ℕ)) (tally tally' : Tally)
-    → Counts (IsBegun setting.turns) tally tally' → HasEffectOrNone setting request before after → Writes (WantsMemory ended) out out'
+    → Counts (λ told. IsBegun setting request before told after) tally tally' → Writes (TellsMemory ended) out out'
     → Brings (λ told. Responds ended setting request before told after) (account out tally) (account out' tally')
-memory_ends end.Memory setting request before after out out' tally tally' (begun, counted, is) effect (written, wrote, words) = (
+memory_ends end.Memory setting request before after out out' tally tally' (begun, counted, is) (written, wrote, words) = (
   both begun (only_written written),
-  same_account (wrote ∙ ap (λ w. extended out (w ++ written)) (sym is.silent))
+  same_account (wrote ∙ ap (λ w. extended out (w ++ written)) (sym (begun_silent setting request before begun after is)))
       (tally_written tally' written ∙ ap (λ t. tally_after t (only_written written)) counted ∙ tally_more tally begun (only_written written)),
-  (begun, is, ap (λ w. both begun (only_written w)) words, effect),
+  (begun, is, ap (λ w. both begun (only_written w)) words),
 )
-memory_ends end.WriteFault setting request before after out out' tally tally' (begun, counted, is) effect (written, wrote, (size, words)) = (
-  both begun (only_written written),
-  same_account (wrote ∙ ap (λ w. extended out (w ++ written)) (sym is.silent))
-      (tally_written tally' written ∙ ap (λ t. tally_after t (only_written written)) counted ∙ tally_more tally begun (only_written written)),
-  (
-    both begun (only_written memory_reply),
-    size,
-    same_told (ap (λ w. w ++ written) is.silent ∙ words ∙ ap (λ w. take size (w ++ memory_reply)) (sym is.silent)) refl refl refl,
-    inr (begun, is, refl, effect),
-  ),
-)
-memory_ends end.Closed setting request before after out out' tally tally' begun effect (written, wrote, none) = absurd none
-memory_ends end.Cut setting request before after out out' tally tally' begun effect (written, wrote, none) = absurd none
-memory_ends end.ReadFault setting request before after out out' tally tally' begun effect (written, wrote, none) = absurd none
-memory_ends end.Limit setting request before after out out' tally tally' begun effect (written, wrote, none) = absurd none
+memory_ends end.WriteFault setting request before after out out' tally tally' (begun, counted, is) (written, wrote, (size, words)) =
+    let silent = begun_silent setting request before begun after is in (
+      both begun (only_written written),
+      same_account (wrote ∙ ap (λ w. extended out (w ++ written)) (sym silent))
+          (tally_written tally' written ∙ ap (λ t. tally_after t (only_written written)) counted ∙ tally_more tally begun (only_written written)),
+      (
+        both begun (only_written memory_reply),
+        size,
+        same_told (ap (λ w. w ++ written) silent ∙ words ∙ ap (λ w. take size (w ++ memory_reply)) (sym silent)) refl refl refl refl,
+        inr (begun, is, refl),
+      ),
+    )
+memory_ends end.Closed setting request before after out out' tally tally' begun (written, wrote, none) = absurd none
+memory_ends end.Cut setting request before after out out' tally tally' begun (written, wrote, none) = absurd none
+memory_ends end.ReadFault setting request before after out out' tally tally' begun (written, wrote, none) = absurd none
+memory_ends end.Limit setting request before after out out' tally tally' begun (written, wrote, none) = absurd none
 
 -- its bytes are out
 pub reply_out : (setting : Setting) (request : RequestData) (before after : Book) (out out' : Option (List ℕ)) (tally tally' : Tally) (bytes : List ℕ)

@@ -3,17 +3,17 @@ use Rattle.std.proofs.Common.{◌≡◌, ℕ, ◌+◌, zero, suc, List, [], ◌+
 use Rattle.alto_http.specs.Link.{extended, one_more}
 use Rattle.alto_serve.specs.Told.{Told, Tally, Account, nothing, only_written, both, risen, tally_after, account, account_after}
 
-abbrev pub told : List ℕ → ℕ → ℕ → List ℕ → Told
-told written looks waits numbers = record { written = written; looks = looks; waits = waits; numbers = numbers }
+abbrev pub told : List ℕ → ℕ → ℕ → ℕ → List ℕ → Told
+told written looks waits faults numbers = record { written = written; looks = looks; waits = waits; faults = faults; numbers = numbers }
 
-abbrev pub tally_of : ℕ → ℕ → Option (List ℕ) → Tally
-tally_of looks waits numbers = record { looks = looks; waits = waits; numbers = numbers }
+abbrev pub tally_of : ℕ → ℕ → ℕ → Option (List ℕ) → Tally
+tally_of looks waits faults numbers = record { looks = looks; waits = waits; faults = faults; numbers = numbers }
 
-pub same_told : {w w' ns ns' : List ℕ} {l l' t t' : ℕ} → w ≡ w' → l ≡ l' → t ≡ t' → ns ≡ ns' → told w l t ns ≡ told w' l' t' ns'
-same_told written looks waits numbers = rw (written, looks, waits, numbers) refl
+pub same_told : {w w' ns ns' : List ℕ} {l l' t t' f f' : ℕ} → w ≡ w' → l ≡ l' → t ≡ t' → f ≡ f' → ns ≡ ns' → told w l t f ns ≡ told w' l' t' f' ns'
+same_told written looks waits faults numbers = rw (written, looks, waits, faults, numbers) refl
 
-pub same_tally : {l l' t t' : ℕ} {ns ns' : Option (List ℕ)} → l ≡ l' → t ≡ t' → ns ≡ ns' → tally_of l t ns ≡ tally_of l' t' ns'
-same_tally looks waits numbers = rw (looks, waits, numbers) refl
+pub same_tally : {l l' t t' f f' : ℕ} {ns ns' : Option (List ℕ)} → l ≡ l' → t ≡ t' → f ≡ f' → ns ≡ ns' → tally_of l t f ns ≡ tally_of l' t' f' ns'
+same_tally looks waits faults numbers = rw (looks, waits, faults, numbers) refl
 
 -- nothing is out yet
 pub out_none : (out : Option (List ℕ)) → out ≡ extended out []
@@ -32,27 +32,28 @@ risen_more count a (suc b) =
 -- three accounts, whichever two are put together first
 pub both_all : (a b c : Told) → both a (both b c) ≡ both (both a b) c
 both_all a b c =
-    same_told (sym (append_assoc a.written b.written c.written)) (omega arith) (omega arith) (sym (append_assoc a.numbers b.numbers c.numbers))
+    same_told (sym (append_assoc a.written b.written c.written)) (omega arith) (omega arith) (omega arith) (sym (append_assoc a.numbers b.numbers c.numbers))
 
 -- nothing more
 pub both_nothing : (a : Told) → both a nothing ≡ a
-both_nothing a = same_told (append-nil a.written) (omega arith) (omega arith) (append-nil a.numbers)
+both_nothing a = same_told (append-nil a.written) (omega arith) (omega arith) (omega arith) (append-nil a.numbers)
 
 pub nothing_both : (a : Told) → both nothing a ≡ a
-nothing_both a = same_told refl (omega arith) (omega arith) refl
+nothing_both a = same_told refl (omega arith) (omega arith) (omega arith) refl
 
 -- ---- what an office counts
 
 -- what is written counts nothing
 pub tally_written : (tally : Tally) (written : List ℕ) → tally ≡ tally_after tally (only_written written)
-tally_written tally written = same_tally refl refl (out_none tally.numbers)
+tally_written tally written = same_tally refl refl refl (out_none tally.numbers)
 
 pub tally_none : (tally : Tally) → tally ≡ tally_after tally nothing
 tally_none tally = tally_written tally []
 
 pub tally_more : (tally : Tally) (a b : Told) → tally_after (tally_after tally a) b ≡ tally_after tally (both a b)
 tally_more tally a b =
-    same_tally (risen_more tally.looks a.looks b.looks) (risen_more tally.waits a.waits b.waits) (out_more tally.numbers a.numbers b.numbers)
+    same_tally (risen_more tally.looks a.looks b.looks) (risen_more tally.waits a.waits b.waits) (risen_more tally.faults a.faults b.faults)
+    (out_more tally.numbers a.numbers b.numbers)
 
 -- ---- with what a link has out
 

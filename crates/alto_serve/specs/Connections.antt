@@ -7,10 +7,10 @@ use Rattle.alto_http.specs.Splits.{Begins, IsRefused, Ending, clean, closed, cut
 use Rattle.alto_http.specs.declared.fault.HeadFault.{HeadFault}
 use Rattle.alto_serve.specs.declared.end.End.{End}
 use Rattle.alto_serve.specs.declared.end.End.TheVariants as end
-use Rattle.alto_serve.specs.Replies.{head_status, status_alone}
-use Rattle.alto_serve.specs.Reply.{bytes_of, memory_reply}
+use Rattle.alto_replies.specs.Replies.{head_status, status_alone}
+use Rattle.alto_replies.specs.Reply.{bytes_of, memory_reply}
 use Rattle.alto_serve.specs.Told.{Told, nothing, only_written, both}
-use Rattle.alto_serve.specs.Turns.{HasEffectOrNone, IsBegun, Setting, TakesTurn}
+use Rattle.alto_serve.specs.Turns.{IsBegun, Setting, TakesTurn}
 
 -- the most requests that a connection brings
 abbrev pub most_requests : ℕ
@@ -64,18 +64,18 @@ pub record ServesAll (setting : Setting) (bytes : List ℕ) (ending : Ending) (b
   pub answered : AnswersAll setting before requests replies after
   pub ends : told ≡ both replies (only_written (last_words ending))
 
--- want of memory while the next request is read or answered: its effect is there whole or not at all
-abbrev pub MayTakeEffect : Setting → List ℕ → Book → Book → Type 0
-MayTakeEffect setting rest before after =
-    (after ≡ before)
-    ⊎ ((request : RequestData) × (behind : List ℕ) × Begins rest request behind × HasEffectOrNone setting request before after)
+-- memory is wanting while the next request is read, or while it has its turn
+abbrev pub WantsMemory : Setting → List ℕ → Book → Told → Book → Type 0
+WantsMemory setting rest before told after =
+    ((told ≡ nothing) × (after ≡ before))
+    ⊎ ((request : RequestData) × (behind : List ℕ) × Begins rest request behind × IsBegun setting request before told after)
 
 -- what comes next to be told: the reply to the next request, the refusal of what is none, or the reply to want of memory
 abbrev pub IsNext : Setting → List ℕ → Book → Told → Book → Type 0
 IsNext setting rest before told after =
     ((request : RequestData) × (behind : List ℕ) × Begins rest request behind × TakesTurn setting request before told after)
     ⊎ ((fault : HeadFault) × IsRefused rest fault × (told ≡ only_written (refusal_bytes (head_status fault))) × (after ≡ before))
-    ⊎ ((begun : Told) × IsBegun setting.turns begun × (told ≡ both begun (only_written memory_reply)) × MayTakeEffect setting rest before after)
+    ⊎ ((begun : Told) × WantsMemory setting rest before begun after × (told ≡ both begun (only_written memory_reply)))
 
 -- the same, of whose bytes only so many were written
 abbrev pub cut_off : ℕ → Told → Told
@@ -103,8 +103,7 @@ pub record RunsShort (setting : Setting) (bytes : List ℕ) (before : Book) (tol
   pub between : Book
   pub serves : Serves setting bytes before count rest replies between
   pub begun : Told
-  pub silent : IsBegun setting.turns begun
-  pub effect : MayTakeEffect setting rest between after
+  pub wants : WantsMemory setting rest between begun after
   pub ends : (told ≡ both replies (both begun (only_written memory_reply))) ⊎ ((told ≡ nothing) × (count ≡ 0) × (after ≡ before))
 
 -- what each end says of the bytes that the link had to give, of those that it has left, of what was told, and of the book.

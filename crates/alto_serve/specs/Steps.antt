@@ -8,11 +8,11 @@ use Rattle.alto_http.specs.declared.fault.HeadFault.{HeadFault}
 use Rattle.alto_http.specs.declared.fault.HeadFault.TheVariants as head
 use Rattle.alto_serve.specs.declared.end.End.{End}
 use Rattle.alto_serve.specs.declared.end.End.TheVariants as end
-use Rattle.alto_serve.specs.Replies.{head_status}
-use Rattle.alto_serve.specs.Reply.{memory_reply}
+use Rattle.alto_replies.specs.Replies.{head_status}
+use Rattle.alto_replies.specs.Reply.{memory_reply}
 use Rattle.alto_serve.specs.Told.{Told, nothing, only_written, both, Account, account_after}
-use Rattle.alto_serve.specs.Turns.{HasEffectOrNone, IsBegun, Setting, TakesTurn}
-use Rattle.alto_serve.specs.Connections.{Serves, MayTakeEffect, IsNext, cut_off, last_words, refusal_bytes}
+use Rattle.alto_serve.specs.Turns.{IsBegun, Setting, TakesTurn}
+use Rattle.alto_serve.specs.Connections.{Serves, WantsMemory, IsNext, cut_off, last_words, refusal_bytes}
 
 -- the next request is replied to, and the connection goes on behind it
 pub record GoesOn (setting : Setting) (rest : List ℕ) (left : Option (List ℕ)) (before : Book) (told : Told) (after : Book) : Type 0 where
@@ -35,7 +35,7 @@ Finishes end.ReadFault setting rest left before told after =
 Finishes end.WriteFault setting rest left before told after =
     (whole : Told) × (size : ℕ) × IsNext setting rest before whole after × (told ≡ cut_off size whole)
 Finishes end.Memory setting rest left before told after =
-    (begun : Told) × IsBegun setting.turns begun × (told ≡ both begun (only_written memory_reply)) × MayTakeEffect setting rest before after
+    (begun : Told) × WantsMemory setting rest before begun after × (told ≡ both begun (only_written memory_reply))
 
 -- a connection ends with the answer to a request
 abbrev pub Responds : End → Setting → RequestData → Book → Told → Book → Type 0
@@ -43,9 +43,9 @@ Responds end.Closed setting request before told after = (request.close ≡ true)
 Responds end.WriteFault setting request before told after =
     (whole : Told) × (size : ℕ) × (told ≡ cut_off size whole)
     × (TakesTurn setting request before whole after
-    ⊎ ((begun : Told) × IsBegun setting.turns begun × (whole ≡ both begun (only_written memory_reply)) × HasEffectOrNone setting request before after))
+    ⊎ ((begun : Told) × IsBegun setting request before begun after × (whole ≡ both begun (only_written memory_reply))))
 Responds end.Memory setting request before told after =
-    (begun : Told) × IsBegun setting.turns begun × (told ≡ both begun (only_written memory_reply)) × HasEffectOrNone setting request before after
+    (begun : Told) × IsBegun setting request before begun after × (told ≡ both begun (only_written memory_reply))
 Responds end.Cut setting request before told after = ⊥
 Responds end.ReadFault setting request before told after = ⊥
 Responds end.Limit setting request before told after = ⊥
@@ -66,10 +66,10 @@ Refuses end.ReadFault fault written = (fault ≡ head.ReadFault) × (written ≡
 Refuses end.Limit fault written = ⊥
 
 -- a connection ends with the reply to want of memory, or inside it
-abbrev pub WantsMemory : End → List ℕ → Type 0
-WantsMemory end.Memory written = written ≡ memory_reply
-WantsMemory end.WriteFault written = (size : ℕ) × (written ≡ take size memory_reply)
-WantsMemory _ written = ⊥
+abbrev pub TellsMemory : End → List ℕ → Type 0
+TellsMemory end.Memory written = written ≡ memory_reply
+TellsMemory end.WriteFault written = (size : ℕ) × (written ≡ take size memory_reply)
+TellsMemory _ written = ⊥
 
 -- a connection ends with the refusal of this status, or inside it, or for want of memory
 abbrev pub RefusesWith : End → ℕ → List ℕ → Type 0

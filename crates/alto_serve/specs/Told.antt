@@ -1,34 +1,36 @@
 -- What a connection brings about beside the book: what it writes, and how it looks and waits.
-use Rattle.std.specs.Prelude.{◌≡◌, ◌⊎◌, ◌≤◌, ℕ, ◌+◌, zero, suc, List, [], ◌∷◌, ◌++◌, length, Option}
+use Rattle.std.specs.Prelude.{◌≡◌, ◌≤◌, ℕ, ◌+◌, zero, suc, List, [], ◌∷◌, ◌++◌, length, Option}
 use Rattle.alto_book.specs.Book.{Book}
 use Rattle.alto_http.specs.Link.{extended, one_more}
 
--- bytes that were written, how many looks and waits were taken, and the numbers of the books that were looked at
+-- bytes that were written, how many looks and waits were taken, how many faults of records were counted, and the numbers of the books
+-- that were looked at
 pub record Told : Type 0 where
   pub written : List ℕ
   pub looks : ℕ
   pub waits : ℕ
+  pub faults : ℕ
   pub numbers : List ℕ
 
 -- nothing at all
 abbrev pub nothing : Told
-nothing = record { written = []; looks = 0; waits = 0; numbers = [] }
+nothing = record { written = []; looks = 0; waits = 0; faults = 0; numbers = [] }
 
 -- bytes alone
 abbrev pub only_written : List ℕ → Told
-only_written bytes = record { written = bytes; looks = 0; waits = 0; numbers = [] }
+only_written bytes = record { written = bytes; looks = 0; waits = 0; faults = 0; numbers = [] }
 
 -- a look at a book, whose number is how many batches it has
 abbrev pub one_look : Book → Told
-one_look book = record { written = []; looks = 1; waits = 0; numbers = length book.batches ∷ [] }
+one_look book = record { written = []; looks = 1; waits = 0; faults = 0; numbers = length book.batches ∷ [] }
 
--- the look of an import that is accepted or refused
-abbrev pub edit_look : Told
-edit_look = record { written = []; looks = 1; waits = 0; numbers = [] }
+-- the look of an import, while so many faults of records are counted. It has no number
+abbrev pub edit_look : ℕ → Told
+edit_look faults = record { written = []; looks = 1; waits = 0; faults = faults; numbers = [] }
 
 -- a wait
 abbrev pub one_wait : Told
-one_wait = record { written = []; looks = 0; waits = 1; numbers = [] }
+one_wait = record { written = []; looks = 0; waits = 1; faults = 0; numbers = [] }
 
 -- one after the other
 abbrev pub both : Told → Told → Told
@@ -36,13 +38,19 @@ both first second = record {
   written = first.written ++ second.written;
   looks = first.looks + second.looks;
   waits = first.waits + second.waits;
+  faults = first.faults + second.faults;
   numbers = first.numbers ++ second.numbers;
 }
 
--- what an office counts, and the numbers of the books that it was looked at, where it tells them
+-- the same of which nothing is written
+abbrev pub unwritten : Told → Told
+unwritten told = record told { written = [] }
+
+-- what an office counts: looks, waits, faults of its records, and the numbers of the books that were looked at, where it tells them
 pub record Tally : Type 0 where
   pub looks : ℕ
   pub waits : ℕ
+  pub faults : ℕ
   pub numbers : Option (List ℕ)
 
 -- a count that has risen so often
@@ -55,6 +63,7 @@ abbrev pub tally_after : Tally → Told → Tally
 tally_after tally told = record {
   looks = risen tally.looks told.looks;
   waits = risen tally.waits told.waits;
+  faults = risen tally.faults told.faults;
   numbers = extended tally.numbers told.numbers;
 }
 
@@ -62,13 +71,20 @@ tally_after tally told = record {
 abbrev pub Counts : (Told → Type 0) → Tally → Tally → Type 0
 Counts P before after = (told : Told) × (after ≡ tally_after before told) × P told
 
--- a look that memory was wanting for: it was taken or not, and it may have a number
-abbrev pub MayBeLook : Told → Type 0
-MayBeLook told = (told.written ≡ []) × (told.waits ≡ 0) × (told.looks ≤ 1) × (length told.numbers ≤ 1)
+-- a look that memory was wanting for: it may be counted, and it may have added one number
+pub record MayBeLook (told : Told) : Type 0 where
+  pub silent : told.written ≡ []
+  pub waits : told.waits ≡ 0
+  pub looks : told.looks ≤ 1
+  pub faults : told.faults ≡ 0
+  pub numbers : length told.numbers ≤ 1
 
--- the same of an import's look, which has no number
-abbrev pub MayBeEditLook : Told → Type 0
-MayBeEditLook told = (told ≡ nothing) ⊎ (told ≡ edit_look)
+-- an import that memory was wanting for: its look may be counted, and it has no number
+pub record MayBeEditLook (told : Told) : Type 0 where
+  pub silent : told.written ≡ []
+  pub waits : told.waits ≡ 0
+  pub looks : told.looks ≤ 1
+  pub numbers : told.numbers ≡ []
 
 -- what a link has out, and what an office counts
 pub record Account : Type 0 where

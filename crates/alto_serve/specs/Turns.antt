@@ -1,21 +1,22 @@
 -- What a request is told, and what becomes of the book.
-use Rattle.std.specs.Prelude.{◌≡◌, ◌⊎◌, ◌≤◌, ◌+◌, ℕ, zero, suc, Bool, true, false, [], length, Option, Some, None, IfSome, Result}
+use Rattle.std.specs.Prelude.{◌≡◌, ◌⊎◌, ℕ, zero, suc, Bool, true, false, [], Option, Some, None, IfSome, Result}
 use Rattle.alto_book.specs.Book.{Book}
+use Rattle.alto_book.specs.Import.{Import}
 use Rattle.alto_book.specs.declared.command.Receipt.{Receipt}
 use Rattle.alto_book.specs.declared.fault.EditFault.{EditFault}
 use Rattle.alto_http.specs.Link.{one_more}
 use Rattle.alto_http.specs.Request.{RequestData}
-use Rattle.alto_serve.specs.declared.outcome.Answer.{Answer}
-use Rattle.alto_serve.specs.declared.outcome.Answer.TheVariants as answer
+use Rattle.alto_answers.specs.declared.outcome.Answer.{Answer}
+use Rattle.alto_answers.specs.declared.outcome.Answer.TheVariants as answer
 use Rattle.alto_serve.specs.declared.end.End.{End}
 use Rattle.alto_serve.specs.declared.end.End.TheVariants as end
-use Rattle.alto_serve.specs.declared.route.Side.{Side}
-use Rattle.alto_serve.specs.Answers.{answer_to}
-use Rattle.alto_serve.specs.Edges.{too_early}
-use Rattle.alto_serve.specs.Looks.{IsDecided, IsLook}
-use Rattle.alto_serve.specs.Replies.{edit_reply}
-use Rattle.alto_serve.specs.Reply.{bytes_of}
-use Rattle.alto_serve.specs.Told.{Told, only_written, one_look, edit_look, one_wait, both}
+use Rattle.alto_answers.specs.declared.route.Side.{Side}
+use Rattle.alto_answers.specs.Answers.{answer_to}
+use Rattle.alto_replies.specs.Replies.{too_early}
+use Rattle.alto_serve.specs.Looks.{IsAnswered, IsLook, IsVainLook}
+use Rattle.alto_replies.specs.Replies.{edit_reply}
+use Rattle.alto_replies.specs.Reply.{bytes_of}
+use Rattle.alto_serve.specs.Told.{Told, MayBeEditLook, nothing, only_written, one_look, edit_look, one_wait, both, unwritten}
 
 -- whom a connection serves, and how: its side, the number that its clock always tells where it promises one, whether nobody else
 -- has the book accept imports, and how often it waits for an awaited edge
@@ -33,14 +34,15 @@ setting_of side time alone turns = record { side = side; time = time; alone = al
 abbrev pub IsMoment : Option ℕ → ℕ → Type 0
 IsMoment time moment = IfSome time (λ n. moment ≡ n)
 
--- an answer at a book is concluded: a reply stands; an import is accepted or refused at some moment, by a look more; and an awaited
--- edge comes too early
+-- an answer at a book is concluded: a reply stands; an import is answered at some moment, by a look more; and an awaited edge comes
+-- too early
 abbrev pub Concludes : Bool → Option ℕ → Bool → Answer → Book → Told → Book → Type 0
 Concludes alone time closing (answer.Reply reply) now told after = (told ≡ only_written (bytes_of reply closing)) × (after ≡ now)
 Concludes alone time closing (answer.Hold of i j) now told after = (told ≡ only_written (bytes_of (too_early i) closing)) × (after ≡ now)
 Concludes alone time closing (answer.Edit import) now told after =
-    (moment : ℕ) × (decided : Result Receipt EditFault) × IsMoment time moment × IsDecided alone now import moment decided after
-    × (told ≡ both edit_look (only_written (bytes_of (edit_reply decided) closing)))
+    (moment : ℕ) × (decided : Result Receipt EditFault) × (faults : ℕ) × IsMoment time moment
+    × IsAnswered alone now import moment faults decided after
+    × (told ≡ both (edit_look faults) (only_written (bytes_of (edit_reply decided) closing)))
 
 -- whether an answer is an edge that is awaited
 abbrev pub is_held : Answer → Bool
@@ -65,45 +67,51 @@ TakesTurn setting request before told after =
     (first : Book) × IsLook setting.alone before first × (rest : Told) × (told ≡ both (one_look first) rest)
     × ComesTo setting request setting.turns (answer_to request first setting.side) first rest after
 
--- nothing was written, no more was waited than may be, and it was looked once, and once for each wait
-pub record IsSettledBy (turns : ℕ) (told : Told) : Type 0 where
-  pub silent : told.written ≡ []
-  pub waits : told.waits ≤ turns
-  pub looks : told.looks ≤ told.waits + 1
-  pub numbers : length told.numbers ≤ told.waits + 1
+-- an answer brings an import
+abbrev pub IsImport : Answer → Type 0
+IsImport met = (import : Import) × (met ≡ answer.Edit import)
 
--- a request has looked once, and once after each of so many waits, and has come to this answer: whatever that comes to, with so many
--- waits left, is what the request comes to
-pub record HasCome (setting : Setting) (request : RequestData) (before : Book) (waits left : ℕ) (met : Answer) (now : Book) (told : Told) : Type 0 where
+-- memory is wanting at an answer, with no wait left to take: nothing came of it; or all did, and its reply is lost; or its import is
+-- accepted or not, which nobody is told
+abbrev pub IsLost : Bool → Option ℕ → Bool → Answer → Book → Told → Book → Type 0
+IsLost alone time closing met now told after =
+    ((told ≡ nothing) × (after ≡ now))
+    ⊎ ((whole : Told) × Concludes alone time closing met now whole after × (told ≡ unwritten whole))
+    ⊎ (IsImport met × MayBeEditLook told × IsLook alone now after)
+
+-- memory is wanting for what an answer at a book comes to, with so many waits left: at once, in the look behind a wait, or later
+abbrev pub FallsShort : Setting → RequestData → ℕ → Answer → Book → Told → Book → Type 0
+FallsShort setting request zero met now told after = IsLost setting.alone setting.time request.close met now told after
+FallsShort setting request (suc turns) (answer.Reply reply) now told after =
+    IsLost setting.alone setting.time request.close (answer.Reply reply) now told after
+FallsShort setting request (suc turns) (answer.Edit import) now told after =
+    IsLost setting.alone setting.time request.close (answer.Edit import) now told after
+FallsShort setting request (suc turns) (answer.Hold of i j) now told after =
+    ((told ≡ nothing) × (after ≡ now))
+    ⊎ ((vain : Told) × (told ≡ both one_wait vain) × IsVainLook setting.alone now vain after)
+    ⊎ ((next : Book) × IsLook setting.alone now next × (rest : Told) × (told ≡ both one_wait (both (one_look next) rest))
+    × FallsShort setting request turns (answer_to request next setting.side) next rest after)
+
+-- a request has begun its turn, and memory was wanting for its reply: in its first look or later
+abbrev pub IsBegun : Setting → RequestData → Book → Told → Book → Type 0
+IsBegun setting request before told after =
+    IsVainLook setting.alone before told after
+    ⊎ ((first : Book) × IsLook setting.alone before first × (rest : Told) × (told ≡ both (one_look first) rest)
+    × FallsShort setting request setting.turns (answer_to request first setting.side) first rest after)
+
+-- a request has come to this answer, with so many waits left: whatever that comes to is what the request comes to
+pub record HasCome (setting : Setting) (request : RequestData) (before : Book) (left : ℕ) (met : Answer) (now : Book) (told : Told) : Type 0 where
   pub silent : told.written ≡ []
-  pub waited : told.waits ≡ waits
-  pub looked : told.looks ≡ waits + 1
-  pub numbered : length told.numbers ≡ waits + 1
   pub goes_on : (rest : Told) (after : Book) → ComesTo setting request left met now rest after → TakesTurn setting request before (both told rest) after
+  pub stops : (rest : Told) (after : Book) → FallsShort setting request left met now rest after → IsBegun setting request before (both told rest) after
 
 -- a request has come to an answer that is left to conclude
 pub record HasSettled (setting : Setting) (request : RequestData) (before : Book) (met : Answer) (now : Book) (told : Told) : Type 0 where
-  pub begun : IsSettledBy setting.turns told
+  pub silent : told.written ≡ []
   pub goes_on : (rest : Told) (after : Book) → Concludes setting.alone setting.time request.close met now rest after
       → TakesTurn setting request before (both told rest) after
-
--- a request that isn't answered, for want of memory, has its effect whole or not at all
-abbrev pub HasEffectOrNone : Setting → RequestData → Book → Book → Type 0
-HasEffectOrNone setting request before after =
-    IsLook setting.alone before after ⊎ ((told : Told) × TakesTurn setting request before told after)
-
--- the same of an answer that isn't concluded
-abbrev pub ConcludesOrNot : Bool → Option ℕ → Bool → Answer → Book → Book → Type 0
-ConcludesOrNot alone time closing met now after =
-    IsLook alone now after ⊎ ((told : Told) × Concludes alone time closing met now told after)
-
--- what such a request has brought about: it wrote nothing, waited no more often than it may, and looked once, once for each wait, and
--- once for an import
-pub record IsBegun (turns : ℕ) (told : Told) : Type 0 where
-  pub silent : told.written ≡ []
-  pub waits : told.waits ≤ turns
-  pub looks : told.looks ≤ told.waits + 2
-  pub numbers : length told.numbers ≤ told.waits + 1
+  pub stops : (rest : Told) (after : Book) → IsLost setting.alone setting.time request.close met now rest after
+      → IsBegun setting request before (both told rest) after
 
 -- the count of failed reads when a connection has ended: one more where a read's fault ended it
 abbrev pub reads_at : End → ℕ → ℕ

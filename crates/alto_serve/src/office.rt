@@ -1,10 +1,10 @@
-ghost use Rattle.std.specs.Prelude.{◌≡◌, ◌≢◌, Bool, Ok, Err, IfOk, IfErr, OnOk, OnErr, All};
+ghost use Rattle.std.specs.Prelude.{◌≡◌, ◌≢◌, ℕ, Bool, Err, IfOk, OnOk, OnErr, All};
 ghost use Rattle.std.specs.Arc.{arc_value};
 ghost use Rattle.alto_rules.specs.Rules.{IsEdit};
 ghost use Rattle.alto_book.specs.Book.{Book};
 ghost use Rattle.alto_book.specs.Legal.{IsLegal};
 ghost use Rattle.alto_desk.specs.Front.{StandsFor};
-ghost use Rattle.alto_serve.specs.Looks.{IsDecided, IsLook};
+ghost use Rattle.alto_serve.specs.Looks.{IsAnswered, IsLook};
 ghost use Rattle.alto_serve.specs.Told.{Counts, Tally, MayBeLook, MayBeEditLook, tally_after, one_look, edit_look, one_wait};
 
 use alto_desk::{Command, EditFault, Front, Receipt};
@@ -23,7 +23,8 @@ pub trait Looks {
     /// The book that was seen last.
     ghost seen: { Self → Book };
 
-    /// How often it was looked and waited, and the numbers of the books that were looked at, where they are told.
+    /// How often it was looked and waited, how many faults of records were counted, and the numbers of the books that were looked at,
+    /// where they are told.
     ghost tally: { Self → Tally };
 
     /// Looks: gives the version of a book that is seen from then on.
@@ -37,16 +38,15 @@ pub trait Looks {
 
 /// What a connection is served through: it looks at versions, has imports accepted, and waits for the next version.
 pub trait Office: Looks {
-    /// Has an import accepted or refused, at a book that extends the one seen before. Where memory is wanting it is accepted
-    /// whole or not at all.
+    /// Has an import accepted or refused, at a book that extends the one seen before. `Keeper` comes only where a fault of the
+    /// records was counted in the call. Where memory is wanting the import is accepted whole or not at all.
     fn edit(&mut self, alloc: Global, command: Command, moment: u64) -> Result<Receipt, EditFault>
         requires { All IsEdit command.edits }
-        ensures ok { IfOk result (λ receipt. IsDecided Self.alone (Self.seen self.old) command moment (Ok receipt) (Self.seen self.new)) }
-        ensures err { IfErr result (λ fault. fault ≢ EditFault.Memory
-            → IsDecided Self.alone (Self.seen self.old) command moment (Err fault) (Self.seen self.new)) }
-        ensures memory { result ≡ Err EditFault.Memory → IsLook Self.alone (Self.seen self.old) (Self.seen self.new) }
-        ensures tally { result ≢ Err EditFault.Memory → Self.tally self.new ≡ tally_after (Self.tally self.old) edit_look }
-        ensures tally_err { OnErr result (Counts MayBeEditLook (Self.tally self.old) (Self.tally self.new)) };
+        ensures answered { result ≢ Err EditFault.Memory
+            → (faults : ℕ) × (Self.tally self.new ≡ tally_after (Self.tally self.old) (edit_look faults))
+            × IsAnswered Self.alone (Self.seen self.old) command moment faults result (Self.seen self.new) }
+        ensures lost { result ≡ Err EditFault.Memory
+            → Counts MayBeEditLook (Self.tally self.old) (Self.tally self.new) × IsLook Self.alone (Self.seen self.old) (Self.seen self.new) };
 
     /// Waits until the book may have more batches than so many. It may end at any time.
     fn wait(&mut self, known: u64)

@@ -1,14 +1,13 @@
 ghost use Rattle.std.specs.Prelude.{◌≡◌, ℕ, true, Err, IfOk};
 ghost use Rattle.alto_http.specs.Intake.{reads_after};
-ghost use Rattle.alto_serve.specs.Replies.{status_alone};
-ghost use Rattle.alto_serve.specs.Reply.{IsReply, bytes_of};
-ghost use Rattle.alto_serve.specs.Steps.{Refuses, RefusesWith, WantsMemory, Writes};
+ghost use Rattle.alto_replies.specs.Replies.{status_alone};
+ghost use Rattle.alto_replies.specs.Reply.{IsReply, bytes_of};
+ghost use Rattle.alto_serve.specs.Steps.{Refuses, RefusesWith, TellsMemory, Writes};
 ghost use Rattle.alto_serve.specs.Turns.{reads_at, writes_at};
 
 use crate::end::End;
-use crate::replies::{head_status, status_alone};
-use crate::writing::reply_bytes;
 use alto_http::{HeadFault, Link, write_all};
+use alto_replies::{head_status, reply_bytes, status_alone};
 use std::alloc::{AllocError, Global};
 
 /// The reply to want of memory, which is written without taking any.
@@ -73,7 +72,7 @@ fn refusal_bytes(alloc: Global, status: u16) -> Result<Vec<u8>, AllocError>
 
 /// Answers want of memory, without taking any, and ends the connection.
 pub(crate) fn out_of_memory<L: Link>(link: &mut L) -> End
-    ensures told { Writes (WantsMemory result) (L.out link.old) (L.out link.new) }
+    ensures told { Writes (TellsMemory result) (L.out link.old) (L.out link.new) }
     ensures writes { L.failed_writes link.new ≡ writes_at result (L.failed_writes link.old) }
     ensures reads { L.failed_reads link.new ≡ L.failed_reads link.old }
     ensures left { L.left link.new ≡ L.left link.old }

@@ -10,9 +10,8 @@ use crate::clock::Clock;
 use crate::end::End;
 use crate::office::{Looks, Office};
 use crate::refuse::{out_of_memory, refuse};
-use crate::route::Side;
-use crate::routes::Routes;
 use crate::turns::answered;
+use alto_answers::{Routes, Side};
 use alto_http::{Intake, Link, Request, read_request, write_all};
 use std::alloc::Global;
 

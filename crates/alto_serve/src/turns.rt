@@ -3,22 +3,18 @@ ghost use Rattle.std.specs.Prelude.{◌≡◌, ◌≢◌, ℕ, Bool, Option, Err
 ghost use Rattle.alto_rules.specs.Rules.{IsEdit};
 ghost use Rattle.alto_book.specs.Book.{Extends};
 ghost use Rattle.alto_book.specs.declared.fault.EditFault.TheVariants as fault;
-ghost use Rattle.alto_serve.specs.Answers.{answer_to, BringsEdits, HasBytes};
-ghost use Rattle.alto_serve.specs.Looks.{IsDecided, IsLook};
-ghost use Rattle.alto_serve.specs.Reply.{IsReply, bytes_of};
-ghost use Rattle.alto_serve.specs.Told.{Counts, MayBeLook, MayBeEditLook, one_look, edit_look, tally_after};
-ghost use Rattle.alto_serve.specs.Turns.{Concludes, ConcludesOrNot, HasSettled, IsMoment, HasEffectOrNone, IsBegun, TakesTurn, is_held, setting_of};
+ghost use Rattle.alto_answers.specs.Answers.{answer_to, BringsEdits, HasBytes};
+ghost use Rattle.alto_serve.specs.Looks.{IsAnswered, IsLook, IsVainLook};
+ghost use Rattle.alto_replies.specs.Reply.{IsReply, bytes_of};
+ghost use Rattle.alto_serve.specs.Told.{Counts, MayBeEditLook, one_look, edit_look, tally_after};
+ghost use Rattle.alto_serve.specs.Turns.{Concludes, HasSettled, IsMoment, IsBegun, IsLost, TakesTurn, is_held, setting_of};
 
-use crate::answering::answer;
 use crate::clock::Clock;
 use crate::office::{Looks, Office};
-use crate::outcome::Answer;
-use crate::replies::{edit_reply, too_early};
-use crate::reply::Reply;
-use crate::routes::Routes;
-use crate::writing::reply_bytes;
+use alto_answers::{Answer, Routes, answer};
 use alto_desk::{Command, EditFault, Receipt};
 use alto_http::Request;
+use alto_replies::{Reply, edit_reply, reply_bytes, too_early};
 use std::alloc::{AllocError, Global};
 
 /// What a request comes to at a look, and the number of the book that was looked at.
@@ -41,8 +37,9 @@ pub(crate) fn answered<F: Office, C: Clock>(
         × TakesTurn (setting_of routes.now (C.tells clock.now) F.alone turns) request.now (F.seen office.old) told (F.seen office.new))
         (F.tally office.old) (F.tally office.new)) }
     ensures book { Extends (F.seen office.new) (F.seen office.old) }
-    ensures err { OnErr result (Counts (IsBegun turns) (F.tally office.old) (F.tally office.new)) }
-    ensures effect { OnErr result (HasEffectOrNone (setting_of routes.now (C.tells clock.now) F.alone turns) request.now (F.seen office.old) (F.seen office.new)) }
+    ensures err { OnErr result (Counts
+        (λ told. IsBegun (setting_of routes.now (C.tells clock.now) F.alone turns) request.now (F.seen office.old) told (F.seen office.new))
+        (F.tally office.old) (F.tally office.new)) }
 {
     let reply = take_turn(alloc, routes, office, clock, request, turns)?;
     reply_bytes(alloc, &reply, request.close)
@@ -62,8 +59,9 @@ fn take_turn<F: Office, C: Clock>(
         (F.tally office.old) (F.tally office.new)) }
     ensures book { Extends (F.seen office.new) (F.seen office.old) }
     ensures bytes { IfOk result IsReply }
-    ensures begun { Counts (IsBegun turns) (F.tally office.old) (F.tally office.new) }
-    ensures effect { OnErr result (HasEffectOrNone (setting_of routes.now (C.tells clock.now) F.alone turns) request.now (F.seen office.old) (F.seen office.new)) }
+    ensures begun { Counts
+        (λ told. IsBegun (setting_of routes.now (C.tells clock.now) F.alone turns) request.now (F.seen office.old) told (F.seen office.new))
+        (F.tally office.old) (F.tally office.new) }
 {
     let answer = settled(alloc, routes, office, request, turns)?;
     conclude(alloc, office, clock, answer)
@@ -83,7 +81,9 @@ fn settled<F: Office>(
     ensures edits { IfOk result BringsEdits }
     ensures replies { IfOk result HasBytes }
     ensures look { IsLook F.alone (F.seen office.old) (F.seen office.new) }
-    ensures begun { OnErr result (Counts (IsBegun turns) (F.tally office.old) (F.tally office.new)) }
+    ensures err { OnErr result ((time : Option ℕ) → Counts
+        (λ told. IsBegun (setting_of routes.now time F.alone turns) request.now (F.seen office.old) told (F.seen office.new))
+        (F.tally office.old) (F.tally office.new)) }
 {
     let mut look = look_at(alloc, routes, office, request)?;
     for _turn in 0..turns {
@@ -116,7 +116,8 @@ fn look_at<F: Office>(
     ensures replies { IfOk result (λ look. HasBytes look.answer) }
     ensures book { IsLook F.alone (F.seen office.old) (F.seen office.new) }
     ensures tally { OnOk result (F.tally office.new ≡ tally_after (F.tally office.old) (one_look (F.seen office.new))) }
-    ensures tally_err { OnErr result (Counts MayBeLook (F.tally office.old) (F.tally office.new)) }
+    ensures err { OnErr result (Counts (λ told. IsVainLook F.alone (F.seen office.old) told (F.seen office.new))
+        (F.tally office.old) (F.tally office.new)) }
 {
     let front = office.front(alloc)?;
     let answer = answer(alloc, routes, request, &*front)?;
@@ -140,9 +141,9 @@ fn conclude<F: Office, C: Clock>(
         (F.tally office.old) (F.tally office.new)) }
     ensures bytes { IfOk result IsReply }
     ensures book { Extends (F.seen office.new) (F.seen office.old) }
-    ensures looked { Counts MayBeEditLook (F.tally office.old) (F.tally office.new) }
-    ensures effect { OnErr result ((closing : Bool)
-        → ConcludesOrNot F.alone (C.tells clock.now) closing answer (F.seen office.old) (F.seen office.new)) }
+    ensures lost { (closing : Bool) → Counts
+        (λ told. IsLost F.alone (C.tells clock.now) closing answer (F.seen office.old) told (F.seen office.new))
+        (F.tally office.old) (F.tally office.new) }
 {
     match answer {
         Answer::Reply(reply) => Ok(reply),
@@ -162,12 +163,12 @@ fn edit<F: Office, C: Clock>(
     command: Command,
 ) -> Result<Result<Receipt, EditFault>, AllocError>
     requires { All IsEdit command.edits }
-    ensures told { IfOk result (λ outcome. (moment : ℕ) × IsMoment (C.tells clock.now) moment
-        × IsDecided F.alone (F.seen office.old) command moment outcome (F.seen office.new)) }
+    ensures told { IfOk result (λ outcome. (moment : ℕ) × (faults : ℕ) × IsMoment (C.tells clock.now) moment
+        × (F.tally office.new ≡ tally_after (F.tally office.old) (edit_look faults))
+        × IsAnswered F.alone (F.seen office.old) command moment faults outcome (F.seen office.new)) }
     ensures known { IfOk result (λ outcome. outcome ≢ Err fault.Memory) }
-    ensures book { OnErr result (IsLook F.alone (F.seen office.old) (F.seen office.new)) }
-    ensures tally { OnOk result (F.tally office.new ≡ tally_after (F.tally office.old) edit_look) }
-    ensures tally_err { OnErr result (Counts MayBeEditLook (F.tally office.old) (F.tally office.new)) }
+    ensures lost { OnErr result (Counts MayBeEditLook (F.tally office.old) (F.tally office.new)
+        × IsLook F.alone (F.seen office.old) (F.seen office.new)) }
 {
     match office.edit(alloc, command, clock.now()) {
         Ok(receipt) => Ok(Ok(receipt)),

@@ -5,7 +5,7 @@ use Rattle.alto_serve.proofs.serve.respond.Goals as goal
 
 pub returns-in_default-clause-ended : goal.returns-in_default-clause-ended
 returns-in_default-clause-ended g c =
-    memory_ends c.out_of_memory.result _ _ _ _ _ _ _ _ c.in_default.ensures.err c.in_default.ensures.effect c.out_of_memory.ensures.told
+    memory_ends c.out_of_memory.result _ _ _ _ _ _ _ _ c.in_default.ensures.err c.out_of_memory.ensures.told
 
 pub returns-in-Err-clause-ended : goal.returns-in-Err-clause-ended
 returns-in-Err-clause-ended g c =

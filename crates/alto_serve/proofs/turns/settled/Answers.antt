@@ -1,6 +1,6 @@
-use Rattle.std.proofs.Common.{◌≡◌, ◌<◌, ◌≤◌, ◌+◌, ◌-◌, suc, None, false, true, arith}
+use Rattle.std.proofs.Common.{◌≡◌, ◌+◌, ◌-◌, suc, false, true, inl, inr, arith}
 use Rattle.alto_serve.specs.Turns.{is_held, setting_of}
-use Rattle.alto_serve.proofs.TurnLemmas.{begun_look, come_first, come_more, come_settled, comes_at_end, comes_at_once, look_on, on_err_anyhow}
+use Rattle.alto_serve.proofs.TurnLemmas.{begun_first, begun_look, come_first, come_more, come_settled, look_on, on_err_anyhow}
 use Rattle.alto_serve.proofs.turns.settled.Goals as goal
 
 pub loop-turn-init : goal.loop-turn-init
@@ -15,15 +15,17 @@ loop-turn-init g c = let all : c.args.turns - 0 ≡ c.args.turns = omega arith i
 pub returns-then-not-is_held-clause-ok : goal.returns-then-not-is_held-clause-ok
 returns-then-not-is_held-clause-ok g c =
     let not_held : is_held c.loop-turn.look.answer ≡ false = cc in
-    let few : c.loop-turn._turn ≤ c.args.turns = omega arith in
-    λ time.
-    let setting = setting_of c.args.routes.now time g.F.Looks.alone c.args.turns in
-    come_settled setting _ _ _ _ _ _ _ _ few (λ rest after concludes. comes_at_once setting _ _ _ _ _ _ not_held concludes) (c.loop-turn.invariant.come time)
+    λ time. come_settled (setting_of c.args.routes.now time g.F.Looks.alone c.args.turns) _ _ _ _ _ _ _ (inl not_held) (c.loop-turn.invariant.come time)
 
-pub returns-in_err-look-2-clause-begun : goal.returns-in_err-look-2-clause-begun
-returns-in_err-look-2-clause-begun g c =
-    let few : c.loop-turn._turn < c.args.turns = omega arith in
-    on_err_anyhow _ (begun_look _ _ _ _ _ _ _ _ _ _ _ few (c.loop-turn.invariant.come None) c.wait.ensures.tally c.in_err-look-2.ensures.tally_err)
+pub returns-in_err-look-clause-err : goal.returns-in_err-look-clause-err
+returns-in_err-look-clause-err g c = on_err_anyhow _ (begun_first _ _ _ _ _ _ _ _ c.in_err-look.ensures.err)
+
+pub returns-in_err-look-2-clause-err : goal.returns-in_err-look-2-clause-err
+returns-in_err-look-2-clause-err g c =
+    let held : is_held c.loop-turn.look.answer ≡ true = cc in
+    let one_left : c.args.turns - c.loop-turn._turn ≡ suc (c.args.turns - (c.loop-turn._turn + 1)) = omega arith in
+    let vain = rw c.wait.ensures.book at c.in_err-look-2.ensures.err in
+    on_err_anyhow _ (begun_look _ _ _ _ _ _ _ _ _ _ _ _ _ _ held one_left c.loop-turn.invariant.come c.wait.ensures.tally vain)
 
 pub loop-turn-preserved : goal.loop-turn-preserved
 loop-turn-preserved g c =
@@ -31,7 +33,7 @@ loop-turn-preserved g c =
     let one_left : c.args.turns - c.loop-turn._turn ≡ suc (c.args.turns - (c.loop-turn._turn + 1)) = omega arith in
     let look = rw c.wait.ensures.book at c.in_ok-look-2.ensures.book in
     record {
-      come = λ time. come_more _ _ _ _ _ _ _ _ _ _ _ _ _ _ held one_left (c.loop-turn.invariant.come time) c.wait.ensures.tally look
+      come = λ time. come_more _ _ _ _ _ _ _ _ _ _ _ _ _ held one_left (c.loop-turn.invariant.come time) c.wait.ensures.tally look
           c.in_ok-look-2.ensures.tally c.in_ok-look-2.ensures.answer;
       met = c.in_ok-look-2.ensures.answer;
       edits = c.in_ok-look-2.ensures.edits;
@@ -41,8 +43,5 @@ loop-turn-preserved g c =
 
 pub returns-clause-ok : goal.returns-clause-ok
 returns-clause-ok g c =
-    let few : c.loop-turn._turn ≤ c.args.turns = omega arith in
     let none : c.args.turns - c.loop-turn._turn ≡ 0 = omega arith in
-    λ time.
-    let setting = setting_of c.args.routes.now time g.F.Looks.alone c.args.turns in
-    come_settled setting _ _ _ _ _ _ _ _ few (λ rest after concludes. comes_at_end setting _ _ _ _ _ _ none concludes) (c.loop-turn.invariant.come time)
+    λ time. come_settled (setting_of c.args.routes.now time g.F.Looks.alone c.args.turns) _ _ _ _ _ _ _ (inr none) (c.loop-turn.invariant.come time)

@@ -1,0 +1,160 @@
+-- The edges of a network map, by the updates graph of a version.
+use Rattle.std.proofs.Common.{◌≡◌, ℕ, ◌≤◌, ◌==◌, true, false, Bool, List, Option, Some, None, Result, Ok, Err, codes, if◌then◌else◌, refl, ap, sym, subst, ◌∙◌, arith}
+use Rattle.std.proofs.lemmas.Bool.{false≢true}
+use Rattle.std.proofs.lemmas.Bool.Decides.{nat_tests}
+use Rattle.alto_names.specs.declared.label.NameFault.{NameFault}
+use Rattle.alto_names.specs.Name.{named, is_net_byte}
+use Rattle.alto_http.specs.declared.request.Verb.{Verb}
+use Rattle.alto_http.specs.declared.request.Verb.TheVariants as verb
+use Rattle.alto_rows.specs.declared.key.Key.{Key}
+use Rattle.alto_rows.specs.declared.resource.Resource.{Resource}
+use Rattle.alto_rows.specs.declared.resource.Resource.TheVariants as resource
+use Rattle.alto_rows.specs.Good.{AreGood}
+use Rattle.alto_rows.specs.Rows.{Rows}
+use Rattle.alto_rows.specs.Versions.{is_declared}
+use Rattle.alto_book.specs.Book.{Book, rows_of}
+use Rattle.alto_book.specs.Legal.{IsLegal}
+use Rattle.alto_book.specs.NumberLaws.{TellsNumbers}
+use Rattle.alto_book.specs.Numbers.{keys_between, rows_at, status_at, updates_graph}
+use Rattle.alto_book.proofs.TellLemmas.{graph_tells}
+use Rattle.alto_desk.specs.Front.{Version, StandsFor, graph_in}
+use Rattle.alto_desk.proofs.FoundLemmas.{graph_found}
+use Rattle.edge_patch.specs.Documents.{document, has_document}
+use Rattle.edge_patch.specs.Merge.{merge_form}
+use Rattle.tips_graph.specs.declared.status.EdgeStatus.{EdgeStatus}
+use Rattle.tips_graph.specs.declared.status.EdgeStatus.TheVariants.{Absent, Gone, Awaited, Ahead, Here}
+use Rattle.tips_graph.specs.Graph.{GraphData, span_of, status_of}
+use Rattle.tips_graph.specs.Graph.{rows_at as graph_rows}
+use Rattle.alto_answers.specs.declared.outcome.Answer.{Answer}
+use Rattle.alto_answers.specs.declared.outcome.Answer.TheVariants as answer
+use Rattle.alto_answers.specs.Answers.{BringsEdits}
+use Rattle.alto_answers.specs.Edges.{edge_by, edge_number, edge_reply, edges_answer, net_edge, numbered_edge}
+use Rattle.alto_answers.specs.Graphs.{IsGraphOf}
+use Rattle.alto_replies.specs.Replies.{document_reply, not_found}
+use Rattle.alto_answers.specs.Types.{media_type_of, merge_patch_type}
+
+-- what a version has of a network map is the book's graph, where the network is declared
+pub found_map : (version : Version) (book : Book) (net : List ℕ) → StandsFor version book
+    → graph_in version.graphs (resource.Net net) ≡ (if is_declared (rows_of book) (resource.Net net) then Some (updates_graph book (resource.Net net)) else None)
+found_map version book net stands = ap (λ graphs. graph_in graphs (resource.Net net)) stands.graphs ∙ graph_found book net
+
+chosen : (b : Bool) (graph there : GraphData) → Some graph ≡ (if b then Some there else None) → (b ≡ true) × (graph ≡ there)
+chosen true graph there h = (refl, cc)
+chosen false graph there h = cc
+
+left_out : (b : Bool) (there : GraphData) → None ≡ (if b then Some there else None) → b ≡ false
+left_out true there h = cc
+left_out false there h = refl
+
+-- a graph that a version has is that of a declared resource
+pub graph_some : (version : Version) (book : Book) (of : Resource) (graph : GraphData) → IsLegal book → StandsFor version book
+    → has_document of ≡ true → Some graph ≡ graph_in version.graphs of → (is_declared (rows_of book) of ≡ true) × IsGraphOf graph book of
+graph_some version book (resource.Net net) graph legal stands documents found =
+    let is = chosen (is_declared (rows_of book) (resource.Net net)) graph (updates_graph book (resource.Net net)) (found ∙ found_map version book net stands) in
+    let P : GraphData → Type 0 = λ g. TellsNumbers g book (resource.Net net) in
+    (is.0, record { tells = subst P (sym is.1) (graph_tells book (resource.Net net) legal is.0); documents = documents })
+graph_some version book (resource.Prop net) graph legal stands documents found = absurd (false≢true documents)
+
+-- and where it has none, the resource isn't declared
+pub graph_none : (version : Version) (book : Book) (of : Resource) → StandsFor version book
+    → has_document of ≡ true → None ≡ graph_in version.graphs of → is_declared (rows_of book) of ≡ false
+graph_none version book (resource.Net net) stands documents found =
+    left_out (is_declared (rows_of book) (resource.Net net)) (updates_graph book (resource.Net net)) (found ∙ found_map version book net stands)
+graph_none version book (resource.Prop net) stands documents found = absurd (false≢true documents)
+
+-- the status that a graph tells is that of the book
+pub by_status : (graph : GraphData) (book : Book) (of : Resource) (i j : ℕ) (status : EdgeStatus) (answer : Answer) → IsGraphOf graph book of
+    → status ≡ status_of graph i j → answer ≡ edge_by status book of i j → answer ≡ edge_by (status_at book of i j) book of i j
+by_status graph book of i j status answer is told same = same ∙ ap (λ s. edge_by s book of i j) (told ∙ is.tells.status i j)
+
+-- an edge that can be had by one book of the graph can be had by another
+pub here_too : (graph : GraphData) (book other : Book) (of : Resource) (i j : ℕ) → IsGraphOf graph book of → IsGraphOf graph other of
+    → status_at book of i j ≡ Here → status_at other of i j ≡ Here
+here_too graph book other of i j is again here = sym (again.tells.status i j) ∙ is.tells.status i j ∙ here
+
+-- the rows that a graph has for the end of an edge that can be had
+pub rows_here : (graph : GraphData) (book : Book) (of : Resource) (i j : ℕ) (rows : Rows) → IsGraphOf graph book of
+    → status_at book of i j ≡ Here → Some rows ≡ graph_rows graph j → rows ≡ rows_at book of j
+rows_here graph book of i j rows is here found =
+    let there : Some rows ≡ Some (rows_at book of j) = found ∙ is.tells.rows j (is.tells.leads i j here) in cc
+
+-- it has some
+pub rows_there : (graph : GraphData) (book : Book) (of : Resource) (i j : ℕ) → IsGraphOf graph book of
+    → status_at book of i j ≡ Here → None ≡ graph_rows graph j → ⊥
+rows_there graph book of i j is here none =
+    let there : None ≡ Some (rows_at book of j) = none ∙ is.tells.rows j (is.tells.leads i j here) in cc
+
+-- they are good and declare the resource
+pub rows_good : (graph : GraphData) (book : Book) (of : Resource) (i j : ℕ) (rows : Rows) → IsGraphOf graph book of
+    → status_at book of i j ≡ Here → rows ≡ rows_at book of j → AreGood rows × (is_declared rows of ≡ true)
+rows_good graph book of i j rows is here same =
+    let P : Rows → Type 0 = λ r. AreGood r × (is_declared r of ≡ true) in
+    subst P (sym same) (is.tells.good j, is.tells.declared j (is.tells.leads i j here))
+
+is_zero : (i : ℕ) → (i == 0) ≡ true → i ≡ 0
+is_zero i h = grind (arith, nat_tests)
+
+not_zero : (i : ℕ) → (i == 0) ≡ false → 1 ≤ i
+not_zero i h = grind (arith, nat_tests)
+
+-- where the graph has keys, the edge is the patch by them
+pub patched : (graph : GraphData) (book : Book) (of : Resource) (i j : ℕ) (rows : Rows) (keys : List Key) → IsGraphOf graph book of
+    → status_at book of i j ≡ Here → rows ≡ rows_at book of j → Some keys ≡ span_of graph i j
+    → document_reply merge_patch_type (merge_form of rows keys) ≡ edge_reply book of i j
+patched graph book of i j rows keys is here same found = by (i == 0) refl
+  where
+    by : (b : Bool) → (i == 0) ≡ b → document_reply merge_patch_type (merge_form of rows keys)
+        ≡ (if b then document_reply (media_type_of of) (document of (rows_at book of j))
+        else document_reply merge_patch_type (merge_form of (rows_at book of j) (keys_between book of i j)))
+    by true h =
+        let zero : i ≡ 0 = is_zero i h in
+        let none : Some keys ≡ None = found ∙ ap (λ n. span_of graph n j) zero ∙ is.tells.snapshot j in
+        cc
+    by false h =
+        let low : 1 ≤ i = not_zero i h in
+        let there : Some keys ≡ Some (keys_between book of i j) = found ∙ is.tells.step i j low here in
+        let between : keys ≡ keys_between book of i j = cc in
+        rw (same, between) refl
+
+-- and where it has none, the edge is the document
+pub whole_document : (graph : GraphData) (book : Book) (of : Resource) (i j : ℕ) (rows : Rows) → IsGraphOf graph book of
+    → status_at book of i j ≡ Here → rows ≡ rows_at book of j → None ≡ span_of graph i j
+    → document_reply (media_type_of of) (document of rows) ≡ edge_reply book of i j
+whole_document graph book of i j rows is here same found = by (i == 0) refl
+  where
+    by : (b : Bool) → (i == 0) ≡ b → document_reply (media_type_of of) (document of rows)
+        ≡ (if b then document_reply (media_type_of of) (document of (rows_at book of j))
+        else document_reply merge_patch_type (merge_form of (rows_at book of j) (keys_between book of i j)))
+    by true h = rw same refl
+    by false h =
+        let low : 1 ≤ i = not_zero i h in
+        let none : None ≡ Some (keys_between book of i j) = found ∙ is.tells.step i j low here in
+        cc
+
+-- ---- an edge brings no import
+
+edge_brings : (status : EdgeStatus) (book : Book) (of : Resource) (i j : ℕ) → BringsEdits (edge_by status book of i j)
+edge_brings Absent book of i j = tt
+edge_brings Gone book of i j = tt
+edge_brings Awaited book of i j = tt
+edge_brings Ahead book of i j = tt
+edge_brings Here book of i j = tt
+
+numbered_brings : (book : Book) (of : Resource) (i j : Option ℕ) → BringsEdits (numbered_edge book of i j)
+numbered_brings book of None j = tt
+numbered_brings book of (Some i) None = tt
+numbered_brings book of (Some i) (Some j) = edge_brings (status_at book of i j) book of i j
+
+declared_brings : (b : Bool) (book : Book) (of : Resource) (i j : Option ℕ)
+    → BringsEdits (if b then numbered_edge book of i j else answer.Reply (not_found (codes "resource")))
+declared_brings true book of i j = numbered_brings book of i j
+declared_brings false book of i j = tt
+
+net_brings : (book : Book) (net : Result (List ℕ) NameFault) (i j : List ℕ) → BringsEdits (net_edge book net i j)
+net_brings book (Err fault) i j = tt
+net_brings book (Ok net) i j = declared_brings (is_declared (rows_of book) (resource.Net net)) book (resource.Net net) (edge_number i) (edge_number j)
+
+pub edges_bring_none : (verb : Verb) (book : Book) (resource i j : List ℕ) → BringsEdits (edges_answer verb book resource i j)
+edges_bring_none verb.Get book resource i j = net_brings book (named is_net_byte 24 resource) i j
+edges_bring_none verb.Post book resource i j = tt
+edges_bring_none verb.Other book resource i j = tt

@@ -1,0 +1,5 @@
+pub mod AuthorityLemmas
+pub mod EdgeLemmas
+pub mod EdgeNumberLemmas
+pub mod HeldLemmas
+pub mod ViewLemmas

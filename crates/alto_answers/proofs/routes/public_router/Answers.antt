@@ -1,0 +1,18 @@
+use Rattle.std.proofs.Common.{rules}
+use Rattle.matchit.proofs.OnLiterals.{matchit_on_literals}
+use Rattle.alto_answers.proofs.routes.public_router.Goals as goal
+
+pub add-requires : goal.add-requires
+unfolding matchit_on_literals
+add-requires c = rw c.new-router.ensures (search rules)
+
+pub add-requires-2 : goal.add-requires-2
+unfolding matchit_on_literals
+add-requires-2 c = rw (c.in_ok-add.ensures, c.new-router.ensures) (search rules)
+
+pub add-requires-3 : goal.add-requires-3
+unfolding matchit_on_literals
+add-requires-3 c = rw (c.in_ok-add-2.ensures, c.in_ok-add.ensures, c.new-router.ensures) (search rules)
+
+pub returns : goal.returns
+returns c = rw (c.in_ok-add-2.ensures, c.in_ok-add.ensures, c.new-router.ensures) at c.in_ok-add-3.ensures

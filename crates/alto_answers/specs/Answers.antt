@@ -1,0 +1,92 @@
+-- What a request comes to at a version: first its route, then its method, its content type, the resource, the body.
+use Rattle.std.specs.Prelude.{ℕ, List, Option, Some, None, Result, Ok, Err, if◌then◌else◌, codes, All}
+use Rattle.sha2.specs.Sha256.{sha256}
+use Rattle.alto_names.specs.declared.label.NameFault.{NameFault}
+use Rattle.alto_names.specs.Name.{named, is_net_byte, is_import_byte}
+use Rattle.alto_rows.specs.declared.key.Key.TheVariants as key
+use Rattle.alto_rows.specs.Rows.{Rows, has_row}
+use Rattle.alto_book.specs.Book.{Book, rows_of}
+use Rattle.alto_rules.specs.declared.edit.Edit.{Edit}
+use Rattle.alto_rules.specs.Rules.{IsEdit}
+use Rattle.net_docs.specs.NetworkMap.{network_map}
+use Rattle.edit_forms.specs.declared.fault.FormFault.{FormFault}
+use Rattle.alto_http.specs.Request.{RequestData}
+use Rattle.alto_http.specs.declared.request.Verb.{Verb}
+use Rattle.alto_http.specs.declared.request.Verb.TheVariants as verb
+use Rattle.alto_answers.specs.declared.outcome.Answer.{Answer}
+use Rattle.alto_answers.specs.declared.outcome.Answer.TheVariants as answer
+use Rattle.alto_answers.specs.declared.route.Place.{Place}
+use Rattle.alto_answers.specs.declared.route.Place.TheVariants as place
+use Rattle.alto_answers.specs.declared.route.Side.{Side}
+use Rattle.alto_replies.specs.Reply.{ReplyData, IsReply}
+use Rattle.alto_replies.specs.Replies.{document_reply, status_alone, not_found, wrong_method, bad_form, form_reply}
+use Rattle.alto_answers.specs.Routes.{place_of}
+use Rattle.alto_answers.specs.Target.{path_of, segment}
+use Rattle.alto_answers.specs.Tips.{tips_answer}
+use Rattle.alto_answers.specs.Types.{network_map_type}
+use Rattle.alto_answers.specs.Edges.{edges_answer}
+use Rattle.alto_answers.specs.Forms.{edits_in, form_of}
+use Rattle.alto_answers.specs.declared.form.Form.{Form}
+
+-- the map of a network, if it is declared
+abbrev pub net_reply : Rows → List ℕ → ReplyData
+net_reply rows net =
+    if has_row rows (key.Net net) then document_reply network_map_type (network_map rows net) else not_found (codes "resource")
+
+-- the document of a resource, if the text names one
+abbrev pub map_reply : Rows → Result (List ℕ) NameFault → ReplyData
+map_reply rows (Err fault) = not_found (codes "resource")
+map_reply rows (Ok net) = net_reply rows net
+
+-- `/maps/{resource}`: the document of a resource
+abbrev pub maps_answer : Verb → Rows → List ℕ → Answer
+maps_answer verb.Get rows resource = answer.Reply (map_reply rows (named is_net_byte 24 resource))
+maps_answer verb.Post rows resource = answer.Reply (wrong_method verb.Get)
+maps_answer verb.Other rows resource = answer.Reply (wrong_method verb.Get)
+
+-- the import of a body, or the fault of its form
+abbrev pub import_of : List ℕ → List ℕ → Result (List Edit) FormFault → Answer
+import_of id digest (Ok edits) = answer.Edit (record { id = id; digest = digest; edits = edits })
+import_of id digest (Err fault) = answer.Reply (form_reply fault)
+
+-- an import under an id, if it is one, whose body is in a form
+abbrev pub import_under : Result (List ℕ) NameFault → Form → List ℕ → Answer
+import_under (Ok id) form body = import_of id (sha256 body) (edits_in form body)
+import_under (Err fault) form body = answer.Reply (bad_form 0 0)
+
+-- an import whose body is in a form, if its content type names one
+abbrev pub posted_import : Option Form → Result (List ℕ) NameFault → List ℕ → Answer
+posted_import None id body = answer.Reply (status_alone 415)
+posted_import (Some form) id body = import_under id form body
+
+-- `/edits/{id}`: an import
+abbrev pub edits_answer : Verb → Option (List ℕ) → List ℕ → List ℕ → Answer
+edits_answer verb.Post content_type id body = posted_import (form_of content_type) (named is_import_byte 64 id) body
+edits_answer verb.Get content_type id body = answer.Reply (wrong_method verb.Post)
+edits_answer verb.Other content_type id body = answer.Reply (wrong_method verb.Post)
+
+-- what a request comes to at the place where its path leads
+abbrev pub place_answer : Option Place → RequestData → Book → Answer
+place_answer None request book = answer.Reply (not_found (codes "route"))
+place_answer (Some place.Maps) request book = maps_answer request.verb (rows_of book) (segment (path_of request.target) 2)
+place_answer (Some place.Tips) request book = tips_answer request.verb request.content_type book request.host request.body
+place_answer (Some place.Edge) request book =
+    edges_answer request.verb book (segment (path_of request.target) 2) (segment (path_of request.target) 4) (segment (path_of request.target) 5)
+place_answer (Some place.Edits) request book =
+    edits_answer request.verb request.content_type (segment (path_of request.target) 2) request.body
+
+-- what a request of a side comes to at a book
+unfoldable pub answer_to : RequestData → Book → Side → Answer
+answer_to request book side = place_answer (place_of side (path_of request.target)) request book
+
+-- an answer that is a reply has bytes
+abbrev pub HasBytes : Answer → Type 0
+HasBytes (answer.Reply reply) = IsReply reply
+HasBytes (answer.Hold of i j) = Unit {0}
+HasBytes (answer.Edit import) = Unit {0}
+
+-- the import that an answer brings has edits whose fields are in the ranges of their columns
+abbrev pub BringsEdits : Answer → Type 0
+BringsEdits (answer.Reply reply) = Unit {0}
+BringsEdits (answer.Hold of i j) = Unit {0}
+BringsEdits (answer.Edit import) = All IsEdit import.edits

@@ -1,0 +1,75 @@
+-- Edges of updates graphs, asked for by their numbers (RFC 9569, section 7).
+use Rattle.std.specs.Prelude.{ℕ, Bool, false, not, ◌&&◌, ◌==◌, nat_le, List, [], ◌∷◌, length, Option, Some, None, Result, Ok, Err, if◌then◌else◌, codes}
+use Rattle.std.specs.Str.Parse.{digits_value}
+use Rattle.alto_names.specs.declared.label.NameFault.{NameFault}
+use Rattle.alto_names.specs.Name.{named, is_net_byte}
+use Rattle.alto_rows.specs.declared.resource.Resource.{Resource}
+use Rattle.alto_rows.specs.declared.resource.Resource.TheVariants as resource
+use Rattle.alto_rows.specs.Versions.{is_declared, version_of}
+use Rattle.alto_book.specs.Book.{Book, rows_of}
+use Rattle.alto_book.specs.Numbers.{first_kept, keys_between, rows_at, status_at}
+use Rattle.alto_http.specs.declared.request.Verb.{Verb}
+use Rattle.alto_http.specs.declared.request.Verb.TheVariants as verb
+use Rattle.alto_http.specs.Fields.{is_decimal}
+use Rattle.edge_patch.specs.Documents.{document}
+use Rattle.edge_patch.specs.Merge.{merge_form}
+use Rattle.tips_graph.specs.declared.status.EdgeStatus.{EdgeStatus}
+use Rattle.tips_graph.specs.declared.status.EdgeStatus.TheVariants.{Absent, Gone, Awaited, Ahead, Here}
+use Rattle.alto_answers.specs.declared.outcome.Answer.{Answer}
+use Rattle.alto_answers.specs.declared.outcome.Answer.TheVariants as answer
+use Rattle.alto_replies.specs.Replies.{document_reply, gone, not_found, too_early, wrong_method}
+use Rattle.alto_replies.specs.Reply.{ReplyData}
+use Rattle.alto_answers.specs.Types.{media_type_of, merge_patch_type}
+
+-- the code of the digit 0
+abbrev pub zero_digit : ℕ
+zero_digit = 48
+
+-- a 0 stands before other digits
+abbrev pub has_leading_zero : List ℕ → Bool
+has_leading_zero (first ∷ second ∷ more) = first == zero_digit
+has_leading_zero _ = false
+
+-- a number as a path has it: 1 to 18 decimal digits, the first of several not 0
+abbrev pub is_edge_number : List ℕ → Bool
+is_edge_number text = is_decimal text && nat_le (length text) 18 && not (has_leading_zero text)
+
+-- the number that a text is
+abbrev pub edge_number : List ℕ → Option ℕ
+edge_number text = if is_edge_number text then Some (digits_value 10 text) else None
+
+-- an edge that can be had: from 0 the document at a number, else the merge patch that leads to it
+abbrev pub edge_reply : Book → Resource → ℕ → ℕ → ReplyData
+edge_reply book of i j =
+    if i == 0 then document_reply (media_type_of of) (document of (rows_at book of j))
+    else document_reply merge_patch_type (merge_form of (rows_at book of j) (keys_between book of i j))
+
+-- what an edge with a status is answered
+abbrev pub edge_by : EdgeStatus → Book → Resource → ℕ → ℕ → Answer
+edge_by Absent book of i j = answer.Reply (not_found (codes "edge"))
+edge_by Gone book of i j = answer.Reply (gone (first_kept book of))
+edge_by Awaited book of i j = answer.Hold of i j
+edge_by Ahead book of i j = answer.Reply (too_early (version_of (rows_of book) of))
+edge_by Here book of i j = answer.Reply (edge_reply book of i j)
+
+-- the edge of a declared resource between two numbers, if they are numbers
+abbrev pub numbered_edge : Book → Resource → Option ℕ → Option ℕ → Answer
+numbered_edge book of (Some i) (Some j) = edge_by (status_at book of i j) book of i j
+numbered_edge book of (Some i) None = answer.Reply (not_found (codes "edge"))
+numbered_edge book of None j = answer.Reply (not_found (codes "edge"))
+
+-- the edge of a resource, if it is declared
+abbrev pub declared_edge : Book → Resource → List ℕ → List ℕ → Answer
+declared_edge book of i j =
+    if is_declared (rows_of book) of then numbered_edge book of (edge_number i) (edge_number j) else answer.Reply (not_found (codes "resource"))
+
+-- the edge of the network map that a text names
+abbrev pub net_edge : Book → Result (List ℕ) NameFault → List ℕ → List ℕ → Answer
+net_edge book (Err fault) i j = answer.Reply (not_found (codes "resource"))
+net_edge book (Ok net) i j = declared_edge book (resource.Net net) i j
+
+-- `/tips/{resource}/ug/{i}/{j}`: an edge of a resource
+abbrev pub edges_answer : Verb → Book → List ℕ → List ℕ → List ℕ → Answer
+edges_answer verb.Get book resource i j = net_edge book (named is_net_byte 24 resource) i j
+edges_answer verb.Post book resource i j = answer.Reply (wrong_method verb.Get)
+edges_answer verb.Other book resource i j = answer.Reply (wrong_method verb.Get)

@@ -1,0 +1,10 @@
+pub mod Answers
+pub mod Authority
+pub mod Edges
+pub mod Forms
+pub mod Graphs
+pub mod Opening
+pub mod Routes
+pub mod Target
+pub mod Tips
+pub mod Types

@@ -1,0 +1,21 @@
+-- Media types of documents and of patches (RFC 7285, section 11; RFC 9240, section 7.1; RFC 7396, section 4).
+use Rattle.std.specs.Prelude.{ℕ, List, codes}
+use Rattle.alto_rows.specs.declared.resource.Resource.{Resource}
+use Rattle.alto_rows.specs.declared.resource.Resource.TheVariants as resource
+
+-- the media type of a network map
+abbrev pub network_map_type : List ℕ
+network_map_type = codes "application/alto-networkmap+json"
+
+-- the media type of a property map
+abbrev pub property_map_type : List ℕ
+property_map_type = codes "application/alto-propmap+json"
+
+-- the media type of a resource's document
+abbrev pub media_type_of : Resource → List ℕ
+media_type_of (resource.Net net) = network_map_type
+media_type_of (resource.Prop net) = property_map_type
+
+-- the media type of a merge patch
+abbrev pub merge_patch_type : List ℕ
+merge_patch_type = codes "application/merge-patch+json"

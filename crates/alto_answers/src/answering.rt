@@ -1,0 +1,46 @@
+ghost use Rattle.std.specs.Prelude.{◌≡◌, IfOk};
+ghost use Rattle.alto_book.specs.Book.{Book};
+ghost use Rattle.alto_book.specs.Legal.{IsLegal};
+ghost use Rattle.alto_desk.specs.Front.{StandsFor};
+ghost use Rattle.alto_answers.specs.Answers.{HasBytes, BringsEdits, answer_to};
+ghost use Rattle.alto_answers.specs.Graphs.{IsVersion};
+
+use crate::edges::edges;
+use crate::edits::edits;
+use crate::maps::maps;
+use crate::outcome::Answer;
+use crate::route::Place;
+use crate::routes::Routes;
+use crate::target::path_of;
+use crate::tips::tips;
+use alto_desk::Front;
+use alto_http::Request;
+use alto_replies::not_found;
+use alto_rows::RowStore;
+use std::alloc::{AllocError, Global};
+
+/// What a request comes to at a version, on the side whose routes these are: the first of no route, another method, another
+/// content type, an unknown resource or no import id, an edge that can't be had, the body, that is at fault; else a document, a
+/// patch, an awaited edge, or an import.
+#[tactic(auto, unfolding(crate::specs::Answers::answer_to))]
+pub fn answer<R: RowStore>(
+    alloc: Global,
+    routes: &Routes,
+    request: &Request,
+    front: &Front<R>,
+) -> Result<Answer, AllocError>
+    requires { IsVersion front.now }
+    ensures answer { IfOk result (λ answer. (book : Book) → IsLegal book → StandsFor front.now book
+        → answer ≡ answer_to request.now book routes.now) }
+    ensures edits { IfOk result BringsEdits }
+    ensures replies { IfOk result HasBytes }
+{
+    let path = path_of(&request.target);
+    match routes.place(path) {
+        None => Ok(Answer::Reply(not_found(alloc, "route")?)),
+        Some(Place::Maps) => maps(alloc, &*front.rows, request.verb, path),
+        Some(Place::Tips) => tips(alloc, front, request),
+        Some(Place::Edge) => edges(alloc, front, request.verb, path),
+        Some(Place::Edits) => edits(alloc, request, path),
+    }
+}

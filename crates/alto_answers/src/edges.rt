@@ -1,0 +1,200 @@
+//! Edges of updates graphs, asked for by their numbers (RFC 9569, section 7).
+ghost use Rattle.std.specs.Prelude.{◌≡◌, ℕ, true, IfOk};
+ghost use Rattle.std.specs.Str.Parse.{digits_value};
+ghost use Rattle.alto_names.specs.Name.{named, is_net_byte};
+ghost use Rattle.alto_rows.specs.declared.resource.Resource.TheVariants as resource;
+ghost use Rattle.alto_book.specs.Book.{Book};
+ghost use Rattle.alto_book.specs.Legal.{IsLegal};
+ghost use Rattle.alto_book.specs.Numbers.{status_at};
+ghost use Rattle.alto_desk.specs.Front.{StandsFor};
+ghost use Rattle.edge_patch.specs.Documents.{has_document};
+ghost use Rattle.tips_graph.specs.declared.status.EdgeStatus.TheVariants.{Here};
+ghost use Rattle.alto_answers.specs.Answers.{HasBytes};
+ghost use Rattle.alto_replies.specs.Reply.{IsReply};
+ghost use Rattle.alto_answers.specs.Edges.{declared_edge, edge_by, edge_number, edge_reply, edges_answer, has_leading_zero, is_edge_number, net_edge, numbered_edge};
+ghost use Rattle.alto_answers.specs.Graphs.{IsGraphOf, IsVersion};
+ghost use Rattle.alto_answers.specs.Target.{segment};
+
+use crate::outcome::Answer;
+use crate::target::segment;
+use crate::types::{MERGE_PATCH, media_type};
+use alto_desk::Front;
+use alto_http::{Verb, is_decimal};
+use alto_names::{NameFault, NetName};
+use alto_replies::{Reply, document_reply, gone, not_found, too_early, wrong_method};
+use alto_rows::{Resource, RowStore};
+use edge_patch::{merge_edge, snapshot};
+use std::alloc::{AllocError, Global};
+use tips_graph::{EdgeStatus, Graph};
+
+/// The most digits of a number in the path of an edge.
+const MOST_DIGITS: usize = 18;
+
+/// What a request comes to whose path leads to `/tips/{resource}/ug/{i}/{j}`.
+pub(crate) fn edges<R: RowStore>(
+    alloc: Global,
+    front: &Front<R>,
+    verb: Verb,
+    path: &[u8],
+) -> Result<Answer, AllocError>
+    requires { IsVersion front.now }
+    ensures has_bytes { IfOk result HasBytes }
+    ensures answer { IfOk result (λ answer. (book : Book) → IsLegal book → StandsFor front.now book
+        → answer ≡ edges_answer verb book (segment path.now 2) (segment path.now 4) (segment path.now 5)) }
+{
+    match verb {
+        Verb::Get => {
+            let resource = segment(alloc, path, 2)?;
+            let i = segment(alloc, path, 4)?;
+            let j = segment(alloc, path, 5)?;
+            net_edge(alloc, front, &resource, &i, &j)
+        }
+        Verb::Post | Verb::Other => Ok(Answer::Reply(wrong_method(alloc, Verb::Get)?)),
+    }
+}
+
+/// The edge of a network map, if the network is declared.
+fn net_edge<R: RowStore>(
+    alloc: Global,
+    front: &Front<R>,
+    resource: &[u8],
+    i: &[u8],
+    j: &[u8],
+) -> Result<Answer, AllocError>
+    requires { IsVersion front.now }
+    ensures has_bytes { IfOk result HasBytes }
+    ensures answer { IfOk result (λ answer. (book : Book) → IsLegal book → StandsFor front.now book
+        → answer ≡ net_edge book (named is_net_byte 24 resource.now) i.now j.now) }
+{
+    match NetName::read(alloc, resource) {
+        Ok(net) => declared_edge(alloc, front, Resource::Net(net), i, j),
+        Err(NameFault::Memory) => Err(AllocError),
+        Err(_) => Ok(Answer::Reply(not_found(alloc, "resource")?)),
+    }
+}
+
+fn declared_edge<R: RowStore>(
+    alloc: Global,
+    front: &Front<R>,
+    resource: Resource,
+    i: &[u8],
+    j: &[u8],
+) -> Result<Answer, AllocError>
+    requires version { IsVersion front.now }
+    requires documents { has_document resource ≡ true }
+    ensures has_bytes { IfOk result HasBytes }
+    ensures answer { IfOk result (λ answer. (book : Book) → IsLegal book → StandsFor front.now book
+        → answer ≡ declared_edge book resource i.now j.now) }
+{
+    match front.graph(&resource) {
+        Some(graph) => numbered_edge(alloc, graph, resource, edge_number(i), edge_number(j)),
+        None => Ok(Answer::Reply(not_found(alloc, "resource")?)),
+    }
+}
+
+/// The edge between two numbers, if they are numbers.
+fn numbered_edge<R: RowStore>(
+    alloc: Global,
+    graph: &Graph<R>,
+    resource: Resource,
+    i: Option<u64>,
+    j: Option<u64>,
+) -> Result<Answer, AllocError>
+    requires { (book : Book) × IsGraphOf graph.now book resource }
+    ensures has_bytes { IfOk result HasBytes }
+    ensures answer { IfOk result (λ answer. (book : Book) → IsGraphOf graph.now book resource
+        → answer ≡ numbered_edge book resource i j) }
+{
+    let Some(i) = i else {
+        return Ok(Answer::Reply(not_found(alloc, "edge")?));
+    };
+    let Some(j) = j else {
+        return Ok(Answer::Reply(not_found(alloc, "edge")?));
+    };
+    edge_by(alloc, graph, resource, i, j)
+}
+
+/// What an edge is answered by its status.
+fn edge_by<R: RowStore>(
+    alloc: Global,
+    graph: &Graph<R>,
+    resource: Resource,
+    i: u64,
+    j: u64,
+) -> Result<Answer, AllocError>
+    requires { (book : Book) × IsGraphOf graph.now book resource }
+    ensures has_bytes { IfOk result HasBytes }
+    ensures answer { IfOk result (λ answer. (book : Book) → IsGraphOf graph.now book resource
+        → answer ≡ edge_by (status_at book resource i j) book resource i j) }
+{
+    match graph.status(i, j) {
+        EdgeStatus::Absent => Ok(Answer::Reply(not_found(alloc, "edge")?)),
+        EdgeStatus::Gone => Ok(Answer::Reply(gone(alloc, graph.first())?)),
+        EdgeStatus::Awaited => Ok(Answer::Hold { resource, i, j }),
+        EdgeStatus::Ahead => Ok(Answer::Reply(too_early(alloc, graph.last())?)),
+        EdgeStatus::Here => Ok(Answer::Reply(edge_reply(alloc, graph, &resource, i, j)?)),
+    }
+}
+
+/// The document or the patch of an edge that can be had.
+fn edge_reply<R: RowStore>(
+    alloc: Global,
+    graph: &Graph<R>,
+    resource: &Resource,
+    i: u64,
+    j: u64,
+) -> Result<Reply, AllocError>
+    requires { (book : Book) × IsGraphOf graph.now book resource.now × (status_at book resource.now i j ≡ Here) }
+    ensures has_bytes { IfOk result IsReply }
+    ensures reply { IfOk result (λ reply. (book : Book) → IsGraphOf graph.now book resource.now
+        → reply ≡ edge_reply book resource.now i j) }
+{
+    let Some(rows) = graph.rows_at(j) else {
+        unreachable!();
+    };
+    match graph.span(i, j) {
+        Some(keys) => {
+            let patch = merge_edge(alloc, resource, &**rows, keys)?;
+            document_reply(alloc, MERGE_PATCH, &patch)
+        }
+        None => {
+            let document = snapshot(alloc, resource, &**rows)?;
+            document_reply(alloc, media_type(resource), &document)
+        }
+    }
+}
+
+/// The number that a text is, as in the path of an edge: 1 to 18 decimal digits, the first of several not 0.
+pub fn edge_number(text: &[u8]) -> Option<u64>
+    ensures { result ≡ edge_number text.now }
+{
+    if is_edge_number(text) {
+        Some(number(text))
+    } else {
+        None
+    }
+}
+
+fn is_edge_number(text: &[u8]) -> bool
+    ensures { result ≡ is_edge_number text.now }
+{
+    is_decimal(text) && text.len() <= MOST_DIGITS && !has_leading_zero(text)
+}
+
+fn has_leading_zero(text: &[u8]) -> bool
+    ensures { result ≡ has_leading_zero text.now }
+{
+    matches!(text, [b'0', _, ..])
+}
+
+/// The number that the digits write.
+fn number(digits: &[u8]) -> u64
+    requires { is_edge_number digits.now ≡ true }
+    ensures { result ≡ digits_value 10 digits.now }
+{
+    let mut number = 0;
+    for digit in digits {
+        number = number * 10 + u64::from(*digit - b'0');
+    }
+    number
+}

@@ -1,0 +1,33 @@
+//! What a request comes to at one version of a book: its route, its method, its content type, its resource, its body, its effect.
+//!
+//! ```text
+//! Request ── Routes::place ──▶ Place ── answer ──▶ Answer ──┬── Reply
+//!                                         ▲                 ├── Hold, an awaited edge
+//!                              Front, a version             └── Edit, an import
+//! ```
+#![tactic(auto)]
+
+mod answering;
+mod authority;
+mod bytes;
+mod content;
+mod edges;
+mod edits;
+mod form;
+mod held;
+mod maps;
+mod opening;
+mod outcome;
+mod route;
+mod routes;
+mod target;
+#[cfg(test)]
+mod tests;
+mod tips;
+mod types;
+
+pub use answering::answer;
+pub use edges::edge_number;
+pub use outcome::Answer;
+pub use route::{Place, Side};
+pub use routes::Routes;

@@ -1,0 +1,24 @@
+//! Media types of documents and of patches.
+ghost use Rattle.std.specs.Prelude.{◌≡◌};
+ghost use Rattle.alto_answers.specs.Types.{media_type_of};
+
+use alto_rows::Resource;
+
+/// The media type of a network map (RFC 7285, section 11.2.1.1).
+pub(crate) const NETWORK_MAP: &str = "application/alto-networkmap+json";
+
+/// The media type of a property map (RFC 9240, section 7.1).
+const PROPERTY_MAP: &str = "application/alto-propmap+json";
+
+/// The media type of a merge patch (RFC 7396, section 4).
+pub(crate) const MERGE_PATCH: &str = "application/merge-patch+json";
+
+/// The media type of a resource's document.
+pub(crate) fn media_type(resource: &Resource) -> &'static str
+    ensures { result.now ≡ media_type_of resource.now }
+{
+    match resource {
+        Resource::Net(_) => NETWORK_MAP,
+        Resource::Prop(_) => PROPERTY_MAP,
+    }
+}

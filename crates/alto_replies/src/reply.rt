@@ -1,0 +1,24 @@
+use alto_http::Verb;
+use json_tree::Name;
+use std::marker::Model;
+
+/// A reply, but for whether the connection closes after it.
+#[derive(Debug, Drop)]
+pub struct Reply {
+    /// The status code (RFC 9110, section 15).
+    pub status: u16,
+    /// The media type of the body.
+    pub content_type: Name,
+    /// The method that the target allows, with status 405.
+    pub allow: Option<Verb>,
+    /// The body.
+    pub body: Vec<u8>,
+}
+
+impl Model for Reply {
+    ghost use Rattle.alto_replies.specs.Reply.{ReplyData};
+
+    ghost Value = { ReplyData };
+
+    ghost view = { λ reply. record { status = reply.status; content_type = reply.content_type; allow = reply.allow; body = reply.body.items } };
+}

@@ -1,0 +1,112 @@
+ghost use Rattle.std.specs.Prelude.{◌≡◌, ◌≢◌, true, [], ◌++◌, codes, decimal, length, is_some, unwrap_or, Some, IfOk, OnOk, IsTrue, string_bytes};
+ghost use Rattle.alto_replies.specs.Reply.{IsReply, bytes_of, head_of, phrase_of, status_line, type_field, length_field, verb_text, allow_field, close_field};
+ghost use Rattle.alto_http.specs.declared.request.Verb.TheVariants as verb;
+
+use crate::reply::Reply;
+use alto_http::Verb;
+use std::alloc::{AllocError, Global};
+
+/// The bytes of a reply (RFC 9112, sections 4 to 6), after which the connection closes or not.
+#[tactic(auto, unfolding(crate::specs::Reply::bytes_of))]
+pub fn reply_bytes(alloc: Global, reply: &Reply, close: bool) -> Result<Vec<u8>, AllocError>
+    requires { IsReply reply.now }
+    ensures { IfOk result (λ bytes. bytes.items ≡ bytes_of reply.now close) }
+{
+    let mut bytes = head(alloc, reply, close)?.into_bytes();
+    bytes.extend_from_slice(&reply.body)?;
+    Ok(bytes)
+}
+
+/// The status line and the fields, with the empty line after them.
+fn head(alloc: Global, reply: &Reply, close: bool) -> Result<String, AllocError>
+    requires { IsReply reply.now }
+    ensures { IfOk result (λ head. string_bytes head ≡ head_of reply.now close) }
+{
+    let mut head = String::new(alloc);
+    write_status(&mut head, reply.status)?;
+    write_type(&mut head, reply.content_type.as_str())?;
+    write_length(&mut head, reply.body.len())?;
+    write_allow(&mut head, reply.allow)?;
+    write_close(&mut head, close)?;
+    head.push_str("\r\n")?;
+    Ok(head)
+}
+
+#[tactic(auto, unfolding(crate::specs::Reply::status_line))]
+fn write_status(head: &mut String, status: u16) -> Result<(), AllocError>
+    requires { is_some (phrase_of status) ≡ true }
+    ensures { OnOk result (string_bytes head.new ≡ string_bytes head.old ++ status_line status) }
+{
+    let phrase = phrase(status);
+    write!(head, "HTTP/1.1 {status} {phrase}\r\n")
+}
+
+#[tactic(auto, unfolding(crate::specs::Reply::type_field))]
+fn write_type(head: &mut String, media_type: &str) -> Result<(), AllocError>
+    ensures { OnOk result (string_bytes head.new ≡ string_bytes head.old ++ type_field media_type.now) }
+{
+    write!(head, "Content-Type: {media_type}\r\n")
+}
+
+#[tactic(auto, unfolding(crate::specs::Reply::length_field))]
+fn write_length(head: &mut String, size: usize) -> Result<(), AllocError>
+    ensures { OnOk result (string_bytes head.new ≡ string_bytes head.old ++ length_field size) }
+{
+    write!(head, "Content-Length: {size}\r\n")
+}
+
+#[tactic(auto, unfolding(crate::specs::Reply::allow_field))]
+fn write_allow(head: &mut String, allow: Option<Verb>) -> Result<(), AllocError>
+    requires { allow ≢ Some verb.Other }
+    ensures { OnOk result (string_bytes head.new ≡ string_bytes head.old ++ allow_field allow) }
+{
+    let Some(method) = allow else {
+        return Ok(());
+    };
+    let method = method_text(method);
+    write!(head, "Allow: {method}\r\n")
+}
+
+#[tactic(auto, unfolding(crate::specs::Reply::close_field))]
+fn write_close(head: &mut String, close: bool) -> Result<(), AllocError>
+    ensures { OnOk result (string_bytes head.new ≡ string_bytes head.old ++ close_field close) }
+{
+    if !close {
+        return Ok(());
+    }
+    head.push_str("Connection: close\r\n")
+}
+
+fn phrase(status: u16) -> &'static str
+    requires { is_some (phrase_of status) ≡ true }
+    ensures { phrase_of status ≡ Some result.now }
+{
+    match status {
+        200 => "OK",
+        400 => "Bad Request",
+        404 => "Not Found",
+        405 => "Method Not Allowed",
+        409 => "Conflict",
+        410 => "Gone",
+        411 => "Length Required",
+        413 => "Content Too Large",
+        415 => "Unsupported Media Type",
+        422 => "Unprocessable Content",
+        425 => "Too Early",
+        431 => "Request Header Fields Too Large",
+        501 => "Not Implemented",
+        503 => "Service Unavailable",
+        _ => unreachable!(),
+    }
+}
+
+fn method_text(method: Verb) -> &'static str
+    requires { method ≢ verb.Other }
+    ensures { result.now ≡ verb_text method }
+{
+    match method {
+        Verb::Get => "GET",
+        Verb::Post => "POST",
+        Verb::Other => unreachable!(),
+    }
+}
