@@ -1,1 +1,2 @@
-mod PipeLemmas
+pub mod NumberLemmas
+pub mod PipeLemmas

@@ -2,6 +2,7 @@
 #![tactic(auto)]
 
 mod console;
+mod grammar;
 mod run;
 mod system_clock;
 #[cfg(test)]

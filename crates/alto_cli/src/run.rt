@@ -2,28 +2,17 @@ ghost use Rattle.std.specs.Prelude.{◌≡◌, ◌≢◌, None, IfOk, IfSome, co
 ghost use Rattle.alto_book.specs.Book.{opening_book};
 ghost use Rattle.alto_serve.specs.Steps.{Writes};
 ghost use Rattle.alto_cli.specs.Runs.{Pipes, SaysWords, words_fault};
-ghost use Rattle.alto_cli.specs.Words.{turns_in, turns_of};
+ghost use Rattle.alto_cli.specs.Words.{turns_of};
 ghost use Rattle.alto_cli.specs.Status.{reads_at, writes_at, status_of};
 
+use crate::grammar::turns_of;
 use alto_desk::Desk;
 use alto_http::{Link, write_all};
 use alto_names::{Epoch, NameFault};
 use alto_rows::PlainRows;
-use alto_serve::{Clock, End, Side, Solo, edge_number, serve_conn};
+use alto_serve::{Clock, End, Side, Solo, serve_conn};
 use json_tree::Name;
 use std::alloc::{AllocError, Global};
-
-/// The words that open a store's connection on the console.
-const PIPE: &str = "pipe";
-
-/// The word before the number of turns.
-const TURNS: &str = "--turns";
-
-/// How often a connection waits for an awaited edge, where no word says it.
-const USUAL_TURNS: u32 = 30;
-
-/// The most turns that a word may say.
-const MOST_TURNS: u64 = 1_000;
 
 /// What the program prints where its words are outside the grammar.
 const WORDS_FAULT: &[u8] = b"words outside the grammar\n";
@@ -38,8 +27,8 @@ const WINDOW: u32 = 8;
 /// of the console failed, 14 where the input ended inside a request, 15 where the console brought as many requests as a
 /// connection may.
 ///
-/// The words are `pipe STORE` or `pipe STORE --turns T`, T being a number to 1,000 without a leading zero: how often an awaited
-/// edge is waited for, 30 unless given. STORE is read and not used yet: the book starts in memory, and ends with the run.
+/// The words are `pipe STORE` or `pipe STORE --turns T`, T being 1 to 10 decimal digits that make 1,000 at most: how often an
+/// awaited edge is waited for, 30 unless given. STORE is read and not used yet: the book starts in memory, and ends with the run.
 pub fn run<L: Link, C: Clock>(alloc: Global, words: &[Name], console: &mut L, clock: &C) -> u8
     ensures faulty { result ≡ 2 → turns_of words.now ≡ None }
     ensures said { turns_of words.now ≡ None → Writes (SaysWords result) (L.out console.old) (L.out console.new) }
@@ -54,29 +43,6 @@ pub fn run<L: Link, C: Clock>(alloc: Global, words: &[Name], console: &mut L, cl
     match turns_of(words) {
         Some(turns) => pipe(alloc, console, clock, turns),
         None => print_words_fault(console),
-    }
-}
-
-/// The turns of the words, if they are of the grammar.
-fn turns_of(words: &[Name]) -> Option<u32>
-    ensures { result ≡ turns_of words.now }
-{
-    match words {
-        [command, _] if command.as_str() == PIPE => Some(USUAL_TURNS),
-        [command, _, option, turns] if command.as_str() == PIPE && option.as_str() == TURNS => {
-            turns_in(turns.as_str())
-        }
-        _ => None,
-    }
-}
-
-/// The number of turns that a word writes.
-fn turns_in(word: &str) -> Option<u32>
-    ensures { result ≡ turns_in word.now }
-{
-    match edge_number(word.as_bytes()) {
-        Some(turns) if turns <= MOST_TURNS => Some(turns as u32),
-        _ => None,
     }
 }
 

@@ -238,14 +238,15 @@ fn taken(alloc: Global, texts: &[&str]) -> Result<(u8, bool), AllocError> {
 fn faulty_words(rt: HostRuntime) -> Result<(), Fail> {
     let alloc = rt.alloc();
     let none: [&str; 0] = [];
-    let all: [&[&str]; 9] = [
+    let all: [&[&str]; 10] = [
         &none,
         &["pipe"],
         &["pipe", "x", "y"],
         &["pip", "x"],
         &["pipe", "x", "--turns"],
         &["pipe", "x", "--turn", "3"],
-        &["pipe", "x", "--turns", "03"],
+        &["pipe", "x", "--turns", "00000000003"],
+        &["pipe", "x", "--turns", "+3"],
         &["pipe", "x", "--turns", "1001"],
         &["pipe", "x", "--turns", ""],
     ];
@@ -261,7 +262,7 @@ fn faulty_words(rt: HostRuntime) -> Result<(), Fail> {
 #[test]
 fn words_that_are_taken(rt: HostRuntime) -> Result<(), Fail> {
     let alloc = rt.alloc();
-    for turns in ["0", "3", "1000"] {
+    for turns in ["0", "3", "1000", "0000000003"] {
         let (status, is_quiet) = taken(alloc, &["pipe", "x", "--turns", turns])?;
         assert_eq!(rt; status, 0, "{turns}");
         assert!(rt; is_quiet, "{turns}");
