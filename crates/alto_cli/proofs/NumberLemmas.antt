@@ -23,5 +23,5 @@ no_turns word (Err e) number parses none =
     let some : 0 < length word = Prim.grind (arith, nat_tests, number) in
     let all : list_all is_ascii_digit word ≡ true = Prim.grind (arith, nat_tests, number) in
     let over : ¬ (digits_value 10 word < 2 ^ 32) =
-        λ lt. parse_digits (numerals_by_value (λ ds. list_all is_ascii_digit ds ≡ true) all_digits) 32 word (Err e) parses all (some, lt) in
+    λ lt. parse_digits (numerals_by_value (λ ds. list_all is_ascii_digit ds ≡ true) all_digits) 32 word (Err e) parses all (some, lt) in
     Prim.grind (arith, nat_tests, over, number)

@@ -30,8 +30,10 @@ fn main(rt: HostRuntime) -> ExitCode {
 /// The words after the program's name. A word that isn't UTF-8 is none of the grammar's, so then there are no words.
 fn words(rt: &(impl Env + AllocGlobal)) -> Result<Vec<Name>, AllocError> {
     let mut words = Vec::new(rt.alloc());
-    let Ok(all) = env::args(rt) else {
-        return Ok(words);
+    let all = match env::args(rt) {
+        Ok(all) => all,
+        Err(fault) if fault.kind() == io::ErrorKind::OutOfMemory => return Err(AllocError),
+        Err(_) => return Ok(words),
     };
     for word in all.skip(1) {
         words.push(Name::new(word))?;
