@@ -1,5 +1,6 @@
 pub mod Compressed
 pub mod Grammar
+pub mod Insides
 pub mod Languages
 pub mod NoAddr
 pub mod Plain
@@ -9,5 +10,6 @@ pub mod Sequences
 pub mod Steps
 pub mod TokenTests
 pub mod Tokens
+pub mod Unique
 pub mod Whole
 pub mod Written

@@ -10,7 +10,7 @@ use Rattle.alto_addr.proofs.Sequences.{parted, next_byte}
 use Rattle.alto_addr.proofs.Plain.{IsPlain, plain_slash, plain_address}
 use Rattle.alto_addr.proofs.Whole.{address_of}
 
-plain_any : (text : List ℕ) → IsAnyAddr text → IsPlain text
+pub plain_any : (text : List ℕ) → IsAnyAddr text → IsPlain text
 plain_any text any = plain_address text (address_of text any.0 any.1)
 
 -- a front that begins a prefix ends in its address, or reaches past the longest address

@@ -1,4 +1,5 @@
 pub mod Bits
+pub mod Order
 pub mod Faults
 pub mod Fronts
 pub mod Languages

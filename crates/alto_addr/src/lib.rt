@@ -13,8 +13,8 @@ mod token;
 pub use addr::{Addr, print_addr};
 pub use fault::AddrFault;
 pub use laws::{
-    address_reads_as_written, longest_run_is_elided, prefix_reads_as_written,
-    text_writes_one_address,
+    address_reads_as_written, inner_addresses_are_outer, longest_run_is_elided, order_is_by_family,
+    prefix_reads_as_written, text_writes_one_address, text_writes_one_prefix,
 };
 pub use prefix::{Prefix, holds, inside, print_prefix};
 pub use reading::{read_addr, read_prefix};
