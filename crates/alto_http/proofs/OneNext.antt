@@ -129,7 +129,7 @@ pub begin_is_whole : BeginIsWhole
 begin_is_whole bytes request rest a =
     let n = a.start + a.size in
     let parts = ap (λ behind. take n bytes ++ behind) a.body in
-    (take n bytes, sym (take-append-drop n bytes) ∙ parts ∙ sym (append_assoc (take n bytes) request.body rest))
+    (a.start, a.size, a.head, sym (take-append-drop n bytes) ∙ parts ∙ sym (append_assoc (take n bytes) request.body rest))
 
 -- ---- what bytes end in
 

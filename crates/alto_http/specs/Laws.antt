@@ -1,5 +1,5 @@
 -- What holds of the bytes of every connection: the statements of the laws.
-use Rattle.std.specs.Prelude.{◌≡◌, ◌≢◌, ℕ, List, [], ◌++◌, take, drop}
+use Rattle.std.specs.Prelude.{◌≡◌, ◌≢◌, ℕ, ◌+◌, List, [], ◌++◌, take, drop}
 use Rattle.httparse.specs.Grammar.{RequestHead, ReadsRequest}
 use Rattle.alto_http.specs.declared.fault.HeadFault.{HeadFault}
 use Rattle.alto_http.specs.declared.fault.HeadFault.TheVariants.{Cut, ReadFault, Memory}
@@ -32,7 +32,8 @@ HeadIsReadWhole = (bytes : List ℕ) (start size : ℕ) (head : RequestHead) (re
 -- the bytes are a head, the body of the request that it stands for, and the rest
 abbrev pub BeginIsWhole : Type 0
 BeginIsWhole = (bytes : List ℕ) (request : RequestData) (rest : List ℕ)
-    → Begins bytes request rest → (head : List ℕ) × (bytes ≡ head ++ request.body ++ rest)
+    → Begins bytes request rest
+    → (start : ℕ) × (size : ℕ) × IsHeadAt bytes start size × (bytes ≡ take (start + size) bytes ++ request.body ++ rest)
 
 -- a request that bytes begin with stands whole in the bytes before what is cut off behind it
 abbrev pub BeginNeedsNoMore : Type 0

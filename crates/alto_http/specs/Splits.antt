@@ -6,7 +6,7 @@ use Rattle.alto_http.specs.declared.fault.HeadFault.TheVariants.{TooLarge}
 use Rattle.alto_http.specs.Head.{breaks_before, HasNoEnd, IsHeadEnd}
 use Rattle.alto_http.specs.Request.{RequestData, Passes, FailsBy}
 
--- the most bytes that stand before the end of a head, with the line breaks before it
+-- the most bytes that a head has up to its end, with the line breaks before it
 abbrev pub head_limit : ℕ
 head_limit = 16384
 

@@ -5,7 +5,7 @@ use crate::link::{Failed, Link, read_behind};
 use std::alloc::{AllocError, Global};
 use std::marker::Model;
 
-/// How many bytes may stand before the end of a head, with the line breaks before it.
+/// The most bytes that a head has up to its end, with the line breaks before it.
 pub(crate) const HEAD_BYTES: usize = 16384;
 
 /// The bytes that were read ahead of the requests taken so far. It has room for one head.

@@ -1,4 +1,4 @@
-//! The edge where bytes become HTTP/1.1 requests (RFC 9112), and replies become bytes.
+//! The edge where bytes become HTTP/1.1 requests (RFC 9112), and the bytes of replies go out.
 //!
 //! ```text
 //! Link ── read ──▶ Intake ── read_request ──▶ Request

@@ -33,7 +33,9 @@ pub fn read_request<L: Link>(
     ensures none_left { IfOk result (λ request. request ≡ None → IsAtEnd (L.left link.new)) }
     ensures cut_left { IsErrOf result HeadFault.Cut → IsAtEnd (L.left link.new) }
 
-    // After a fault of a read all that came is ahead still, unless a body had begun.
+    // What is refused is ahead still, and so is all that came after a fault of a read, unless a body had begun.
+    ensures stays { IfErr result (λ e. (e ≢ HeadFault.Cut) → (e ≢ HeadFault.ReadFault) → (e ≢ HeadFault.Memory)
+        → ReadsAhead intake.old (L.left link.old) intake.new (L.left link.new)) }
     ensures kept { IsErrOf result HeadFault.ReadFault
         → ReadsAhead intake.old (L.left link.old) intake.new (L.left link.new)
         ⊎ GivesOnly EndsInBody intake.old (L.left link.old) (L.left link.new) }

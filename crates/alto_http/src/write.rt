@@ -1,4 +1,4 @@
-ghost use Rattle.std.specs.Prelude.{◌≡◌, ◌≤◌, ℕ, length, take, OnOk, OnErr};
+ghost use Rattle.std.specs.Prelude.{◌≡◌, ◌<◌, ℕ, length, take, OnOk, OnErr};
 ghost use Rattle.alto_http.specs.Link.{count_after, extended};
 
 use crate::link::{Failed, Link};
@@ -13,11 +13,11 @@ impl From<Failed> for WriteFault {
     }
 }
 
-/// Puts all the bytes out, in as many writes as the link asks for. After an `Err` a prefix of them
-/// is out. Takes no memory.
+/// Puts all the bytes out, in as many writes as the link asks for. After an `Err` only a part of
+/// them is out, from their beginning on. Takes no memory.
 pub fn write_all<L: Link>(link: &mut L, bytes: &[u8]) -> Result<(), WriteFault>
     ensures ok { OnOk result (L.out link.new ≡ extended (L.out link.old) bytes.now) }
-    ensures err { OnErr result ((k : ℕ) × (k ≤ length bytes.now)
+    ensures err { OnErr result ((k : ℕ) × (k < length bytes.now)
         × (L.out link.new ≡ extended (L.out link.old) (take k bytes.now))) }
 
     ensures counted { L.failed_writes link.new ≡ count_after result (L.failed_writes link.old) }
