@@ -1,7 +1,7 @@
 -- The laws of books, by the names of the functions that state them.
-use Rattle.alto_book.specs.Laws.{OpeningIsLegal, AcceptanceKeepsLegal, AcceptanceExtends, BookExtendsItself, ExtendingGoesOn, RefusalChangesNothing, KnownIdChangesNothing, ReceiptIsKept, LegalRowsAreGood, LegalStatesAreGood, LegalWritesFit, VersionsStaySmall}
+use Rattle.alto_book.specs.Laws.{OpeningIsLegal, AcceptanceKeepsLegal, AcceptanceExtends, BookExtendsItself, ExtendingGoesOn, RefusalChangesNothing, KnownIdChangesNothing, ReceiptIsKept, LegalRowsAreGood, LegalStatesAreGood, LegalWritesFit, DeletionsAreOfEdits, VersionsStaySmall}
 use Rattle.alto_book.proofs.AcceptanceLemmas.{accept_legal, accept_extends, extends_itself, extends_on, refused_leaves, known_leaves}
-use Rattle.alto_book.proofs.FitLemmas.{writes_fit}
+use Rattle.alto_book.proofs.FitLemmas.{writes_fit, deletions_of_edits}
 use Rattle.alto_book.proofs.OpeningLemmas.{legal_opening}
 use Rattle.alto_book.proofs.RepeatLemmas.{accepted_again}
 use Rattle.alto_book.proofs.StateLemmas.{good_rows, good_state, version_of-rows_of}
@@ -38,6 +38,9 @@ legal_states_are_good = good_state
 
 pub legal_writes_fit : LegalWritesFit
 legal_writes_fit = writes_fit
+
+pub deletions_are_of_edits : DeletionsAreOfEdits
+deletions_are_of_edits = deletions_of_edits
 
 pub versions_stay_small : VersionsStaySmall
 versions_stay_small = version_of-rows_of

@@ -5,7 +5,7 @@ use Rattle.std.proofs.lemmas.Cmp.{tied_itself}
 use Rattle.std.proofs.lemmas.List.Elements.{All-append, All-from_recursion}
 use Rattle.std.proofs.lemmas.Option.{slice_get_within}
 use Rattle.std.specs.Ordering.{is_eq}
-use Rattle.std.specs.Prelude.{true, ◌&&◌, ℕ, ◌<◌, List, [], ◌∷◌, ◌++◌, length, map, filter, All, IfSome, Some, slice_get}
+use Rattle.std.specs.Prelude.{true, ◌&&◌, ℕ, ◌<◌, List, [], ◌∷◌, ◌++◌, length, map, filter, All, IfSome, Some, None, slice_get}
 use Rattle.std.specs.List.{AllByRecursion}
 use Rattle.alto_names.specs.Name.{IsNetName}
 use Rattle.alto_rows.proofs.OrderLemmas.{resource_cmp_total}
@@ -25,7 +25,7 @@ use Rattle.alto_book.proofs.SameLemmas.{stands, stands-filter}
 use Rattle.alto_book.proofs.SoundLemmas.{sound_of_good}
 use Rattle.alto_book.proofs.StateLemmas.{good_state, next_versions_at}
 use Rattle.alto_book.specs.Book.{Book, state_at}
-use Rattle.alto_book.specs.Laws.{IsOfBatch}
+use Rattle.alto_book.specs.Laws.{IsOfBatch, DeletionsAreOfEdits}
 use Rattle.alto_book.specs.Legal.{IsOfEdit, Follows, IsLegal}
 
 -- a write that can be stored
@@ -77,3 +77,28 @@ pub writes_fit : (book : Book) (n : ℕ) (batch : Accepted) → IsLegal book →
 writes_fit book n batch legal h =
     let within : n < length book.batches = slice_get_within book.batches n batch h in
     follows_storable (state_at book n) batch (good_state book n legal) (legal.each n batch h) (next_versions_at book n legal (omega arith))
+
+-- ---- what a batch deletes
+
+-- a write that deletes nothing but what edits may write
+abbrev DeletesOfEdits : Write → Type 0
+DeletesOfEdits write = write.value ≡ None → IsOfEdit write.key
+
+-- what is put isn't deleted
+put_stands : {A P : Type 0} (x : A) → Some x ≡ None → P
+put_stands x e = cc
+
+-- version rows are put
+versions_put : (rows : Rows) (ofs : List Resource) → AllByRecursion DeletesOfEdits (map (next_version rows) ofs)
+versions_put rows [] = tt
+versions_put rows (one ∷ ofs) = ((λ none. put_stands _ none), versions_put rows ofs)
+
+-- a batch of a legal book deletes only what edits may write
+pub deletions_of_edits : DeletionsAreOfEdits
+deletions_of_edits book n batch legal h =
+    let follows : Follows (state_at book n) batch = legal.each n batch h in
+    let versions : List Write = sequence_writes (state_at book n) follows.edits in
+    rw follows.whole
+    (All-append DeletesOfEdits follows.edits versions (λ k d within none. follows.of_edits k d within)
+    (All-from_recursion DeletesOfEdits versions
+    (versions_put (state_at book n) (filter (is_touched follows.edits) (resources_of (after (state_at book n) follows.edits))))))

@@ -21,3 +21,5 @@ pub mod SoundLemmas
 pub mod StateLemmas
 pub mod StayLemmas
 pub mod TellLemmas
+pub mod EarlierLemmas
+pub mod WalkLemmas

@@ -22,7 +22,8 @@ use Rattle.tips_graph.proofs.KeySetLemmas.{key_set_has}
 use Rattle.tips_graph.specs.Graph.{Push}
 use Rattle.alto_book.specs.Book.{Book, state_at, rows_of, writes_in}
 use Rattle.alto_book.specs.Legal.{Follows, IsLegal}
-use Rattle.alto_book.specs.NumberLaws.{TouchedMapsGetNumbers, UntouchedMapStays, LastNumberIsNow, DifferBy, NumbersDifferByKeys}
+use Rattle.edge_patch.specs.Differ.{DifferBy}
+use Rattle.alto_book.specs.NumberLaws.{TouchedMapsGetNumbers, UntouchedMapStays, LastNumberIsNow, NumbersDifferByKeys}
 use Rattle.alto_book.specs.Numbers.{gives, touching, rows_at, batches_between, keys_between, pushes_of}
 use Rattle.alto_book.proofs.BatchLemmas.{is_declared-batch}
 use Rattle.alto_book.proofs.BetweenLemmas.{batches_from, state_at-between, pushes_between, pushes_from, keys_in, has-pushes, quiet_between}

@@ -14,7 +14,7 @@ use Rattle.tips_graph.specs.Graph.{Push}
 use Rattle.tips_graph.specs.Keys.{key_set}
 use Rattle.alto_book.specs.Book.{Book, state_at, rows_of, writes_in}
 use Rattle.alto_book.specs.Legal.{Follows, IsLegal}
-use Rattle.alto_book.specs.NumberLaws.{EachNumberIsGivenOnce, NoNumberTwice, PushIsOfItsBatch, PushIsOfItsStep, KeysAreThoseOfThePushes}
+use Rattle.alto_book.specs.NumberLaws.{EachNumberIsGivenOnce, NoNumberTwice, GivenNumberIsNext, PushIsOfItsBatch, PushIsOfItsStep, KeysAreThoseOfThePushes}
 use Rattle.alto_book.specs.Numbers.{gives, rows_at, touching, batches_between, keys_between, pushes_of}
 use Rattle.alto_book.proofs.BetweenLemmas.{slice_get-front, batches_from, batches_one, one_push, pushes_between, pushes_from, keys_in, key_set-pushes, quiet_between}
 use Rattle.alto_book.proofs.GivenLemmas.{raised, gives-batch, renews-batch}
@@ -63,6 +63,13 @@ given_back book of number n batch legal there gave = by (raised (state_at book n
     }
     by true e false f = let never : true ≡ false = sym both ∙ rw (e, f) refl in cc
     by false e t f = let never : true ≡ false = sym both ∙ rw e refl in cc
+
+-- the number that a batch gives is the next
+pub given_is_next : GivenNumberIsNext
+given_is_next book of number n batch legal there gave =
+    let given : IsGivenAt book of number n batch = given_back book of number n batch legal there gave in
+    let behind : n + 1 ≡ suc n = omega arith in
+    (sym given.before, ap (λ (place : ℕ). version_of (state_at book place) of) behind ∙ version_of-given book of number n batch legal given)
 
 -- what is behind the first n elements begins with the element there
 front_of : (xs : List Push) (n : ℕ) (x : Push) → slice_get xs n ≡ Some x → take 1 (drop n xs) ≡ x ∷ []

@@ -1,5 +1,5 @@
 -- What holds of every book, whatever imports come: the statements of the laws.
-use Rattle.std.specs.Prelude.{◌≡◌, ℕ, ◌≤◌, List, length, All, IfSome, IfErr, Some, Ok, Err, ⊤, slice_get}
+use Rattle.std.specs.Prelude.{◌≡◌, ℕ, ◌≤◌, List, length, All, IfSome, IfErr, Some, None, Ok, Err, ⊤, slice_get}
 use Rattle.alto_names.specs.Name.{IsEpoch, IsNetName}
 use Rattle.alto_rows.specs.declared.key.Key.{Key}
 use Rattle.alto_rows.specs.declared.key.Key.TheVariants as key
@@ -78,6 +78,11 @@ IsOfBatch at = IsOfEdit at
 abbrev pub LegalWritesFit : Type 0
 LegalWritesFit = (book : Book) (n : ℕ) (batch : Accepted) → IsLegal book → slice_get book.batches n ≡ Some batch
     → All (λ write. IsOfBatch write.key × IfSome write.value (Fits write.key)) batch.writes
+
+-- a batch of a legal book deletes only what edits may write, so no version
+abbrev pub DeletionsAreOfEdits : Type 0
+DeletionsAreOfEdits = (book : Book) (n : ℕ) (batch : Accepted) → IsLegal book → slice_get book.batches n ≡ Some batch
+    → All (λ write. write.value ≡ None → IsOfEdit write.key) batch.writes
 
 -- no version of a legal book is above the number of its batches
 abbrev pub VersionsStaySmall : Type 0

@@ -6,3 +6,5 @@ pub mod Legal
 pub mod Laws
 pub mod Numbers
 pub mod NumberLaws
+pub mod Walks
+pub mod WalkLaws

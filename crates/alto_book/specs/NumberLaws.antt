@@ -1,19 +1,16 @@
 -- What holds of the numbers that batches give resources: the statements of the laws.
 use Rattle.std.specs.Prelude.{◌≡◌, ℕ, ◌+◌, ◌-◌, ◌≤◌, ◌<◌, true, false, length, take, drop, Option, Some, None, slice_get, List}
-use Rattle.std.specs.BTreeMap.{is_at}
-use Rattle.std.specs.List.{flat_map, list_any}
-use Rattle.alto_rows.specs.declared.key.Key.{Key}
+use Rattle.std.specs.List.{flat_map}
 use Rattle.alto_rows.specs.declared.key.Key.TheVariants as key
 use Rattle.alto_rows.specs.declared.resource.Resource.{Resource}
 use Rattle.alto_rows.specs.declared.resource.Resource.TheVariants as resource
 use Rattle.alto_rows.specs.Accepted.{Accepted}
 use Rattle.alto_rows.specs.Good.{AreGood}
-use Rattle.alto_rows.specs.Order.{key_cmp}
-use Rattle.alto_rows.specs.Rows.{Rows, value_of, has_row}
-use Rattle.alto_rows.specs.Touches.{touches}
+use Rattle.alto_rows.specs.Rows.{has_row}
 use Rattle.alto_rows.specs.Versions.{is_declared, version_of}
 use Rattle.alto_rules.specs.Versions.{is_written}
 use Rattle.net_docs.specs.NetworkMap.{network_map}
+use Rattle.edge_patch.specs.Differ.{DifferBy}
 use Rattle.tips_graph.specs.declared.status.EdgeStatus.TheVariants.{Here}
 use Rattle.tips_graph.specs.Edges.{recommended_edge}
 use Rattle.tips_graph.specs.Graph.{GraphData, first_of, keeps, span_of, status_of}
@@ -43,6 +40,12 @@ abbrev pub NoNumberTwice : Type 0
 NoNumberTwice = (book : Book) (of : Resource) (m n : ℕ) (earlier later : Accepted) (low high : ℕ) → IsLegal book → m < n
     → slice_get book.batches m ≡ Some earlier → slice_get book.batches n ≡ Some later
     → gives of low earlier ≡ true → gives of high later ≡ true → low < high
+
+-- a number that a batch gives is one more than the version before the batch, and is the version after it
+abbrev pub GivenNumberIsNext : Type 0
+GivenNumberIsNext = (book : Book) (of : Resource) (number n : ℕ) (batch : Accepted) → IsLegal book → slice_get book.batches n ≡ Some batch
+    → gives of number batch ≡ true
+    → (number ≡ version_of (state_at book n) of + 1) × (version_of (state_at book (n + 1)) of ≡ number)
 
 -- a batch that writes a key of a declared network's map gives the map a number, and the network's property map
 abbrev pub TouchedMapsGetNumbers : Type 0
@@ -102,13 +105,6 @@ UntouchedMapStays = (book : Book) (net : List ℕ) (n : ℕ) (batch : Accepted) 
 abbrev pub LastNumberIsNow : Type 0
 LastNumberIsNow = (book : Book) (net : List ℕ) → IsLegal book → has_row (rows_of book) (key.Net net) ≡ true
     → network_map (rows_at book (resource.Net net) (version_of (rows_of book) (resource.Net net))) net ≡ network_map (rows_of book) net
-
--- rows that declare a resource, and others, have one epoch, and of the keys that touch the resource only these may differ
-pub record DifferBy (keys : List Key) (rows others : Rows) (of : Resource) : Type 0 where
-  pub epoch : value_of rows key.Epoch ≡ value_of others key.Epoch
-  pub same : (at : Key) → touches of at ≡ true → list_any (is_at (key_cmp at)) keys ≡ false → value_of rows at ≡ value_of others at
-  pub before : is_declared rows of ≡ true
-  pub behind : is_declared others of ≡ true
 
 -- the rows at two numbers differ by the keys between them
 abbrev pub NumbersDifferByKeys : Type 0

@@ -1,6 +1,6 @@
 //! What holds of every book, whatever imports come. Each law is the contract of a function that does nothing.
 
-ghost use Rattle.alto_book.specs.Laws.{OpeningIsLegal, AcceptanceKeepsLegal, AcceptanceExtends, BookExtendsItself, ExtendingGoesOn, RefusalChangesNothing, KnownIdChangesNothing, RefusalIsOfTheImport, ReceiptIsKept, LegalRowsAreGood, LegalStatesAreGood, LegalWritesFit, VersionsStaySmall};
+ghost use Rattle.alto_book.specs.Laws.{OpeningIsLegal, AcceptanceKeepsLegal, AcceptanceExtends, BookExtendsItself, ExtendingGoesOn, RefusalChangesNothing, KnownIdChangesNothing, RefusalIsOfTheImport, ReceiptIsKept, LegalRowsAreGood, LegalStatesAreGood, LegalWritesFit, DeletionsAreOfEdits, VersionsStaySmall};
 
 /// A new book is legal.
 pub fn opening_is_legal()
@@ -37,9 +37,11 @@ pub fn legal_rows_are_good()
     ensures each { LegalStatesAreGood }
 {}
 
-/// Each write of a batch of a legal book has a key that a batch may write, and puts only a value that fits it.
+/// Each write of a batch of a legal book has a key that a batch may write, and puts only a value that fits it. None deletes a
+/// version.
 pub fn legal_writes_fit()
-    ensures { LegalWritesFit }
+    ensures fit { LegalWritesFit }
+    ensures deletions { DeletionsAreOfEdits }
 {}
 
 /// No version is above the number of batches.

@@ -9,6 +9,7 @@ mod command;
 mod fault;
 mod laws;
 mod number_laws;
+mod walk_laws;
 
 pub use command::{Command, Receipt};
 pub use fault::EditFault;
@@ -20,3 +21,4 @@ pub use number_laws::{
     each_number_is_given_once, graphs_tell_the_book, no_number_twice, numbers_differ_by_keys,
     numbers_stay, pushes_are_the_numbers, touched_maps_get_numbers, untouched_maps_stay,
 };
+pub use walk_laws::{bodies_stay, earlier_books_are_legal, walks_lead_on};

@@ -1,15 +1,16 @@
 //! What holds of the numbers that batches give resources. Each law is the contract of a function that does nothing.
 
-ghost use Rattle.alto_book.specs.NumberLaws.{EachNumberIsGivenOnce, NoNumberTwice, TouchedMapsGetNumbers, PushesAreNumbered, PushIsOfItsBatch, PushIsOfItsStep, KeysAreThoseOfThePushes, RowsAtStay, KeysBetweenStay, FirstKeptNeverFalls, UntouchedMapStays, LastNumberIsNow, NumbersDifferByKeys, GraphTellsNumbers};
+ghost use Rattle.alto_book.specs.NumberLaws.{EachNumberIsGivenOnce, NoNumberTwice, GivenNumberIsNext, TouchedMapsGetNumbers, PushesAreNumbered, PushIsOfItsBatch, PushIsOfItsStep, KeysAreThoseOfThePushes, RowsAtStay, KeysBetweenStay, FirstKeptNeverFalls, UntouchedMapStays, LastNumberIsNow, NumbersDifferByKeys, GraphTellsNumbers};
 
 /// Each number from 1 to a resource's version was given by exactly one batch.
 pub fn each_number_is_given_once()
     ensures { EachNumberIsGivenOnce }
 {}
 
-/// A later batch gives a resource a higher number, so none is given twice.
+/// A later batch gives a resource a higher number, so none is given twice. A batch gives one number at most: the next.
 pub fn no_number_twice()
-    ensures { NoNumberTwice }
+    ensures later { NoNumberTwice }
+    ensures next { GivenNumberIsNext }
 {}
 
 /// What touches the map of a declared network gives the map a number, and the network's property map too.

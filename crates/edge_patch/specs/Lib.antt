@@ -1,4 +1,5 @@
 pub mod Documents
 pub mod Merge
+pub mod Differ
 pub mod Laws
 pub mod Examples

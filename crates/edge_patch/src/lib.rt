@@ -14,5 +14,5 @@ mod merge;
 mod tests;
 
 pub use documents::snapshot;
-pub use laws::{groups_in_order, only_touching_keys_count, untouched_is_empty};
+pub use laws::{groups_in_order, only_touching_keys_count, steps_lead_on, untouched_is_empty};
 pub use merge::merge_edge;
