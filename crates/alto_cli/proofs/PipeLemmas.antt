@@ -25,10 +25,10 @@ piped ended time turns (Some bytes) left out out' tally tally' book served = (
 )
 
 -- memory was wanting before anything was read
-pub piped_never : (given left out : Option (List ℕ)) (time : Option ℕ) (turns : ℕ)
-    → IfSome given (λ bytes. Writes (Pipes 1 time turns bytes left) out out)
-piped_never given left out time turns =
-    let none : Tally = record { looks = 0; waits = 0; faults = 0; numbers = None } in
+pub piped_never : (given out : Option (List ℕ)) (time : Option ℕ) (turns : ℕ)
+    → IfSome given (λ bytes. Writes (Pipes 1 time turns bytes given) out out)
+piped_never given out time turns =
+    let none : Tally = record { looks = 0; waits = 0; faults = 0; numbers = None; waited = None } in
     let book : Book = opening_book (codes "e1") 8 in
-    piped end.Memory time turns given left out out none none book
-    (served_never (setting_of side.Both time true turns) given left (account out none) book)
+    piped end.Memory time turns given given out out none none book
+    (served_never (setting_of side.Both time true turns) given (account out none) book)

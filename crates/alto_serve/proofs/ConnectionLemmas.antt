@@ -236,10 +236,10 @@ served_most setting (Some bytes) left' before count left first later after all s
 )
 
 -- memory was wanting before the first request
-pub served_never : (setting : Setting) (given left' : Option (List ℕ)) (first : Account) (book : Book)
-    → IfSome given (λ bytes. Brings (λ told. Ended end.Memory setting bytes left' book told book) first first)
-served_never setting None left' first book = tt
-served_never setting (Some bytes) left' first book = (
+pub served_never : (setting : Setting) (given : Option (List ℕ)) (first : Account) (book : Book)
+    → IfSome given (λ bytes. Brings (λ told. Ended end.Memory setting bytes given book told book) first first)
+served_never setting None first book = tt
+served_never setting (Some bytes) first book = (
   nothing,
   account_none first,
   record {
@@ -251,6 +251,6 @@ served_never setting (Some bytes) left' first book = (
     serves = record { requests = []; counted = refl; leads = refl; answered = (refl, refl) };
     begun = nothing;
     wants = inl (refl, refl);
-    ends = inr (refl, refl, refl);
+    ends = inr (refl, refl, refl, refl);
   },
 )

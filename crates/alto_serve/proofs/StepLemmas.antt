@@ -127,7 +127,7 @@ memory_ends end.WriteFault setting request before after out out' tally tally' (b
       (
         both begun (only_written memory_reply),
         size,
-        same_told (ap (λ w. w ++ written) silent ∙ words ∙ ap (λ w. take size (w ++ memory_reply)) (sym silent)) refl refl refl refl,
+        same_told (ap (λ w. w ++ written) silent ∙ words ∙ ap (λ w. take size (w ++ memory_reply)) (sym silent)) refl refl refl refl refl,
         inr (begun, is, refl),
       ),
     )

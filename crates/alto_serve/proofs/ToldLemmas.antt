@@ -3,17 +3,21 @@ use Rattle.std.proofs.Common.{◌≡◌, ℕ, ◌+◌, zero, suc, List, [], ◌+
 use Rattle.alto_http.specs.Link.{extended, one_more}
 use Rattle.alto_serve.specs.Told.{Told, Tally, Account, nothing, only_written, both, risen, tally_after, account, account_after}
 
-abbrev pub told : List ℕ → ℕ → ℕ → ℕ → List ℕ → Told
-told written looks waits faults numbers = record { written = written; looks = looks; waits = waits; faults = faults; numbers = numbers }
+abbrev pub told : List ℕ → ℕ → ℕ → ℕ → List ℕ → List ℕ → Told
+told written looks waits faults numbers waited =
+    record { written = written; looks = looks; waits = waits; faults = faults; numbers = numbers; waited = waited }
 
-abbrev pub tally_of : ℕ → ℕ → ℕ → Option (List ℕ) → Tally
-tally_of looks waits faults numbers = record { looks = looks; waits = waits; faults = faults; numbers = numbers }
+abbrev pub tally_of : ℕ → ℕ → ℕ → Option (List ℕ) → Option (List ℕ) → Tally
+tally_of looks waits faults numbers waited =
+    record { looks = looks; waits = waits; faults = faults; numbers = numbers; waited = waited }
 
-pub same_told : {w w' ns ns' : List ℕ} {l l' t t' f f' : ℕ} → w ≡ w' → l ≡ l' → t ≡ t' → f ≡ f' → ns ≡ ns' → told w l t f ns ≡ told w' l' t' f' ns'
-same_told written looks waits faults numbers = rw (written, looks, waits, faults, numbers) refl
+pub same_told : {w w' ns ns' ks ks' : List ℕ} {l l' t t' f f' : ℕ}
+    → w ≡ w' → l ≡ l' → t ≡ t' → f ≡ f' → ns ≡ ns' → ks ≡ ks' → told w l t f ns ks ≡ told w' l' t' f' ns' ks'
+same_told written looks waits faults numbers waited = rw (written, looks, waits, faults, numbers, waited) refl
 
-pub same_tally : {l l' t t' f f' : ℕ} {ns ns' : Option (List ℕ)} → l ≡ l' → t ≡ t' → f ≡ f' → ns ≡ ns' → tally_of l t f ns ≡ tally_of l' t' f' ns'
-same_tally looks waits faults numbers = rw (looks, waits, faults, numbers) refl
+pub same_tally : {l l' t t' f f' : ℕ} {ns ns' ks ks' : Option (List ℕ)}
+    → l ≡ l' → t ≡ t' → f ≡ f' → ns ≡ ns' → ks ≡ ks' → tally_of l t f ns ks ≡ tally_of l' t' f' ns' ks'
+same_tally looks waits faults numbers waited = rw (looks, waits, faults, numbers, waited) refl
 
 -- nothing is out yet
 pub out_none : (out : Option (List ℕ)) → out ≡ extended out []
@@ -33,19 +37,20 @@ risen_more count a (suc b) =
 pub both_all : (a b c : Told) → both a (both b c) ≡ both (both a b) c
 both_all a b c =
     same_told (sym (append_assoc a.written b.written c.written)) (omega arith) (omega arith) (omega arith) (sym (append_assoc a.numbers b.numbers c.numbers))
+    (sym (append_assoc a.waited b.waited c.waited))
 
 -- nothing more
 pub both_nothing : (a : Told) → both a nothing ≡ a
-both_nothing a = same_told (append-nil a.written) (omega arith) (omega arith) (omega arith) (append-nil a.numbers)
+both_nothing a = same_told (append-nil a.written) (omega arith) (omega arith) (omega arith) (append-nil a.numbers) (append-nil a.waited)
 
 pub nothing_both : (a : Told) → both nothing a ≡ a
-nothing_both a = same_told refl (omega arith) (omega arith) (omega arith) refl
+nothing_both a = same_told refl (omega arith) (omega arith) (omega arith) refl refl
 
 -- ---- what an office counts
 
 -- what is written counts nothing
 pub tally_written : (tally : Tally) (written : List ℕ) → tally ≡ tally_after tally (only_written written)
-tally_written tally written = same_tally refl refl refl (out_none tally.numbers)
+tally_written tally written = same_tally refl refl refl (out_none tally.numbers) (out_none tally.waited)
 
 pub tally_none : (tally : Tally) → tally ≡ tally_after tally nothing
 tally_none tally = tally_written tally []
@@ -53,7 +58,7 @@ tally_none tally = tally_written tally []
 pub tally_more : (tally : Tally) (a b : Told) → tally_after (tally_after tally a) b ≡ tally_after tally (both a b)
 tally_more tally a b =
     same_tally (risen_more tally.looks a.looks b.looks) (risen_more tally.waits a.waits b.waits) (risen_more tally.faults a.faults b.faults)
-    (out_more tally.numbers a.numbers b.numbers)
+    (out_more tally.numbers a.numbers b.numbers) (out_more tally.waited a.waited b.waited)
 
 -- ---- with what a link has out
 

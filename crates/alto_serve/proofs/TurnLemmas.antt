@@ -1,5 +1,5 @@
 -- A request's turn, look by look.
-use Rattle.std.proofs.Common.{◌≡◌, ◌≢◌, ◌⊎◌, ℕ, ◌+◌, zero, suc, Bool, true, false, List, [], ◌++◌, Option, None, Result, Ok, Err, IfOk, IfErr, OnOk, OnErr, refl, sym, ◌∙◌, ap, subst, inl, inr, append-nil, suc-ne-zero, arith}
+use Rattle.std.proofs.Common.{◌≡◌, ◌≢◌, ◌⊎◌, ℕ, zero, suc, Bool, true, false, List, [], Option, None, Result, Ok, Err, IfOk, IfErr, OnOk, OnErr, refl, sym, ◌∙◌, ap, subst, inl, inr, length, suc-ne-zero, arith}
 use Rattle.std.proofs.lemmas.Bool.{false≢true}
 use Rattle.alto_book.specs.Acceptance.{accept}
 use Rattle.alto_rows.specs.declared.resource.Resource.{Resource}
@@ -117,7 +117,7 @@ come_first setting request before now left tally tally' met all look counted is 
 -- an edge that is held comes to what it comes to at the next look
 waits_once : (setting : Setting) (request : RequestData) (left : ℕ) (met : Answer) (now next : Book) (rest : Told) (after : Book)
     → is_held met ≡ true → IsLook setting.alone now next → ComesTo setting request left (answer_to request next setting.side) next rest after
-    → ComesTo setting request (suc left) met now (both one_wait (both (one_look next) rest)) after
+    → ComesTo setting request (suc left) met now (both (one_wait (length now.batches)) (both (one_look next) rest)) after
 waits_once setting request left (answer.Hold of i j) now next rest after held look comes = (next, look, rest, refl, comes)
 waits_once setting request left (answer.Reply reply) now next rest after held look comes = absurd (false≢true held)
 waits_once setting request left (answer.Edit import) now next rest after held look comes = absurd (false≢true held)
@@ -125,14 +125,14 @@ waits_once setting request left (answer.Edit import) now next rest after held lo
 -- memory is wanting behind the next look
 waits_short : (setting : Setting) (request : RequestData) (left : ℕ) (met : Answer) (now next : Book) (rest : Told) (after : Book)
     → is_held met ≡ true → IsLook setting.alone now next → FallsShort setting request left (answer_to request next setting.side) next rest after
-    → FallsShort setting request (suc left) met now (both one_wait (both (one_look next) rest)) after
+    → FallsShort setting request (suc left) met now (both (one_wait (length now.batches)) (both (one_look next) rest)) after
 waits_short setting request left (answer.Hold of i j) now next rest after held look short = inr (inr (next, look, rest, refl, short))
 waits_short setting request left (answer.Reply reply) now next rest after held look short = absurd (false≢true held)
 waits_short setting request left (answer.Edit import) now next rest after held look short = absurd (false≢true held)
 
 -- or in it
 waits_in_vain : (setting : Setting) (request : RequestData) (left : ℕ) (met : Answer) (now : Book) (vain : Told) (after : Book)
-    → is_held met ≡ true → IsVainLook setting.alone now vain after → FallsShort setting request (suc left) met now (both one_wait vain) after
+    → is_held met ≡ true → IsVainLook setting.alone now vain after → FallsShort setting request (suc left) met now (both (one_wait (length now.batches)) vain) after
 waits_in_vain setting request left (answer.Hold of i j) now vain after held look = inr (inl (vain, refl, look))
 waits_in_vain setting request left (answer.Reply reply) now vain after held look = absurd (false≢true held)
 waits_in_vain setting request left (answer.Edit import) now vain after held look = absurd (false≢true held)
@@ -141,28 +141,28 @@ waits_in_vain setting request left (answer.Edit import) now vain after held look
 pub come_more : (setting : Setting) (request : RequestData) (before now next : Book) (ahead left : ℕ) (tally mid waited looked : Tally)
     (met met' : Answer)
     → is_held met ≡ true → ahead ≡ suc left → Counts (HasCome setting request before ahead met now) tally mid
-    → waited ≡ tally_after mid one_wait → IsLook setting.alone now next → looked ≡ tally_after waited (one_look next)
+    → waited ≡ tally_after mid (one_wait (length now.batches)) → IsLook setting.alone now next → looked ≡ tally_after waited (one_look next)
     → met' ≡ answer_to request next setting.side
     → Counts (HasCome setting request before left met' next) tally looked
 come_more setting request before now next ahead left tally mid waited looked met met' held one_left (told, counted, come) once look looks_once is' = (
-  both (both told one_wait) (one_look next),
-  looks_once ∙ ap (λ t. tally_after t (one_look next)) (once ∙ ap (λ t. tally_after t one_wait) counted ∙ tally_more tally told one_wait)
-      ∙ tally_more tally (both told one_wait) (one_look next),
+  both (both told (one_wait (length now.batches))) (one_look next),
+  looks_once ∙ ap (λ t. tally_after t (one_look next)) (once ∙ ap (λ t. tally_after t (one_wait (length now.batches))) counted ∙ tally_more tally told (one_wait (length now.batches)))
+      ∙ tally_more tally (both told (one_wait (length now.batches))) (one_look next),
   record {
     silent = rw come.silent refl;
     goes_on = λ rest after comes.
         let P : Answer → Type 0 = λ met. ComesTo setting request left met next rest after in
-        let Q : ℕ → Type 0 = λ n. ComesTo setting request n met now (both one_wait (both (one_look next) rest)) after in
+        let Q : ℕ → Type 0 = λ n. ComesTo setting request n met now (both (one_wait (length now.batches)) (both (one_look next) rest)) after in
         let T : Told → Type 0 = λ told. TakesTurn setting request before told after in
-        subst T (both_all told one_wait (both (one_look next) rest) ∙ both_all (both told one_wait) (one_look next) rest)
-        (come.goes_on (both one_wait (both (one_look next) rest)) after
+        subst T (both_all told (one_wait (length now.batches)) (both (one_look next) rest) ∙ both_all (both told (one_wait (length now.batches))) (one_look next) rest)
+        (come.goes_on (both (one_wait (length now.batches)) (both (one_look next) rest)) after
         (subst Q (sym one_left) (waits_once setting request left met now next rest after held look (subst P is' comes))));
     stops = λ rest after short.
         let P : Answer → Type 0 = λ met. FallsShort setting request left met next rest after in
-        let Q : ℕ → Type 0 = λ n. FallsShort setting request n met now (both one_wait (both (one_look next) rest)) after in
+        let Q : ℕ → Type 0 = λ n. FallsShort setting request n met now (both (one_wait (length now.batches)) (both (one_look next) rest)) after in
         let T : Told → Type 0 = λ told. IsBegun setting request before told after in
-        subst T (both_all told one_wait (both (one_look next) rest) ∙ both_all (both told one_wait) (one_look next) rest)
-        (come.stops (both one_wait (both (one_look next) rest)) after
+        subst T (both_all told (one_wait (length now.batches)) (both (one_look next) rest) ∙ both_all (both told (one_wait (length now.batches))) (one_look next) rest)
+        (come.stops (both (one_wait (length now.batches)) (both (one_look next) rest)) after
         (subst Q (sym one_left) (waits_short setting request left met now next rest after held look (subst P is' short))));
   },
 )
@@ -211,21 +211,22 @@ begun_first side alone turns request before after tally looked (told, counted, v
 -- in a look behind a wait
 begun_behind : (setting : Setting) (request : RequestData) (before now after : Book) (ahead left : ℕ) (tally mid waited looked : Tally) (met : Answer)
     → is_held met ≡ true → ahead ≡ suc left → Counts (HasCome setting request before ahead met now) tally mid
-    → waited ≡ tally_after mid one_wait → Counts (λ told. IsVainLook setting.alone now told after) waited looked
+    → waited ≡ tally_after mid (one_wait (length now.batches)) → Counts (λ told. IsVainLook setting.alone now told after) waited looked
     → Counts (λ told. IsBegun setting request before told after) tally looked
 begun_behind setting request before now after ahead left tally mid waited looked met held one_left (told, counted, come) once (vain, vainly, look) =
-    let Q : ℕ → Type 0 = λ n. FallsShort setting request n met now (both one_wait vain) after in (
-      both told (both one_wait vain),
-      vainly ∙ ap (λ t. tally_after t vain) (once ∙ ap (λ t. tally_after t one_wait) counted ∙ tally_more tally told one_wait)
-          ∙ tally_more tally (both told one_wait) vain ∙ ap (λ t. tally_after tally t) (sym (both_all told one_wait vain)),
-      come.stops (both one_wait vain) after (subst Q (sym one_left) (waits_in_vain setting request left met now vain after held look)),
+    let Q : ℕ → Type 0 = λ n. FallsShort setting request n met now (both (one_wait (length now.batches)) vain) after in (
+      both told (both (one_wait (length now.batches)) vain),
+      vainly ∙ ap (λ t. tally_after t vain) (once ∙ ap (λ t. tally_after t (one_wait (length now.batches))) counted ∙ tally_more tally told (one_wait (length now.batches)))
+          ∙ tally_more tally (both told (one_wait (length now.batches))) vain
+          ∙ ap (λ t. tally_after tally t) (sym (both_all told (one_wait (length now.batches)) vain)),
+      come.stops (both (one_wait (length now.batches)) vain) after (subst Q (sym one_left) (waits_in_vain setting request left met now vain after held look)),
     )
 
 pub begun_look : (side : Side) (alone : Bool) (turns : ℕ) (request : RequestData) (before now after : Book) (ahead left : ℕ)
     (tally mid waited looked : Tally) (met : Answer)
     → is_held met ≡ true → ahead ≡ suc left
     → ((time : Option ℕ) → Counts (HasCome (setting_of side time alone turns) request before ahead met now) tally mid)
-    → waited ≡ tally_after mid one_wait → Counts (λ told. IsVainLook alone now told after) waited looked
+    → waited ≡ tally_after mid (one_wait (length now.batches)) → Counts (λ told. IsVainLook alone now told after) waited looked
     → (time : Option ℕ) → Counts (λ told. IsBegun (setting_of side time alone turns) request before told after) tally looked
 begun_look side alone turns request before now after ahead left tally mid waited looked met held one_left come once vain time =
     begun_behind (setting_of side time alone turns) request before now after ahead left tally mid waited looked met held one_left (come time) once vain
@@ -300,7 +301,7 @@ look_unanswered alone before after tally looked look counted = (one_look after, 
 
 pub look_not : (tally : Tally) → Counts MayBeLook tally tally
 look_not tally =
-    (nothing, tally_none tally, record { silent = refl; waits = refl; looks = omega arith; faults = refl; numbers = omega arith })
+    (nothing, tally_none tally, record { silent = refl; waits = refl; looks = omega arith; faults = refl; numbers = omega arith; waited = refl })
 
 -- nobody else changes the book
 decided_alone : (book : Book) (import : Import) (moment : ℕ) (told : Result Receipt EditFault) (later : Book)
@@ -329,10 +330,10 @@ solo_stays (Err why) book later stayed is = record { extends = rw stayed (extend
 
 -- its look is counted
 pub solo_counted : (looks waits looked : ℕ) → looked ≡ one_more looks
-    → tally_of looked waits 0 None ≡ tally_after (tally_of looks waits 0 None) (edit_look 0)
-solo_counted looks waits looked more = same_tally more refl refl refl
+    → tally_of looked waits 0 None None ≡ tally_after (tally_of looks waits 0 None None) (edit_look 0)
+solo_counted looks waits looked more = same_tally more refl refl refl refl
 
 pub solo_lost : (looks waits looked : ℕ) → looked ≡ one_more looks
-    → Counts MayBeEditLook (tally_of looks waits 0 None) (tally_of looked waits 0 None)
+    → Counts MayBeEditLook (tally_of looks waits 0 None None) (tally_of looked waits 0 None None)
 solo_lost looks waits looked more =
-    (edit_look 0, solo_counted looks waits looked more, record { silent = refl; waits = refl; looks = omega arith; numbers = refl })
+    (edit_look 0, solo_counted looks waits looked more, record { silent = refl; waits = refl; looks = omega arith; numbers = refl; waited = refl })

@@ -94,8 +94,8 @@ pub record BreaksOff (setting : Setting) (bytes : List ℕ) (before : Book) (tol
   pub size : ℕ
   pub ends : told ≡ both replies (cut_off size whole)
 
--- requests were replied to, and then memory was wanting, which was told; or it was wanting before the first request was read
-pub record RunsShort (setting : Setting) (bytes : List ℕ) (before : Book) (told : Told) (after : Book) : Type 0 where
+-- requests were replied to, and then memory was wanting, which was told; or it was wanting before a byte was read
+pub record RunsShort (setting : Setting) (bytes : List ℕ) (left : Option (List ℕ)) (before : Book) (told : Told) (after : Book) : Type 0 where
   pub count : ℕ
   pub few : count < most_requests
   pub rest : List ℕ
@@ -104,7 +104,7 @@ pub record RunsShort (setting : Setting) (bytes : List ℕ) (before : Book) (tol
   pub serves : Serves setting bytes before count rest replies between
   pub begun : Told
   pub wants : WantsMemory setting rest between begun after
-  pub ends : (told ≡ both replies (both begun (only_written memory_reply))) ⊎ ((told ≡ nothing) × (count ≡ 0) × (after ≡ before))
+  pub ends : (told ≡ both replies (both begun (only_written memory_reply))) ⊎ ((told ≡ nothing) × (count ≡ 0) × (after ≡ before) × (left ≡ Some bytes))
 
 -- what each end says of the bytes that the link had to give, of those that it has left, of what was told, and of the book.
 -- A read's fault: each request was answered that lay whole in what the link gave
@@ -118,4 +118,4 @@ Ended end.ReadFault setting bytes left before told after =
     (given : List ℕ) × (ending : Ending) × (Some bytes ≡ followed_by given left) × ((ending ≡ clean) ⊎ (ending ≡ cut))
     × ServesAll setting given ending before told after
 Ended end.WriteFault setting bytes left before told after = BreaksOff setting bytes before told after
-Ended end.Memory setting bytes left before told after = RunsShort setting bytes before told after
+Ended end.Memory setting bytes left before told after = RunsShort setting bytes left before told after

@@ -3,34 +3,35 @@ use Rattle.std.specs.Prelude.{◌≡◌, ◌≤◌, ℕ, ◌+◌, zero, suc, Lis
 use Rattle.alto_book.specs.Book.{Book}
 use Rattle.alto_http.specs.Link.{extended, one_more}
 
--- bytes that were written, how many looks and waits were taken, how many faults of records were counted, and the numbers of the books
--- that were looked at
+-- bytes that were written, how many looks and waits were taken, how many faults of records were counted, the numbers of the books
+-- that were looked at, and the numbers that were waited past
 pub record Told : Type 0 where
   pub written : List ℕ
   pub looks : ℕ
   pub waits : ℕ
   pub faults : ℕ
   pub numbers : List ℕ
+  pub waited : List ℕ
 
 -- nothing at all
 abbrev pub nothing : Told
-nothing = record { written = []; looks = 0; waits = 0; faults = 0; numbers = [] }
+nothing = record { written = []; looks = 0; waits = 0; faults = 0; numbers = []; waited = [] }
 
 -- bytes alone
 abbrev pub only_written : List ℕ → Told
-only_written bytes = record { written = bytes; looks = 0; waits = 0; faults = 0; numbers = [] }
+only_written bytes = record { written = bytes; looks = 0; waits = 0; faults = 0; numbers = []; waited = [] }
 
 -- a look at a book, whose number is how many batches it has
 abbrev pub one_look : Book → Told
-one_look book = record { written = []; looks = 1; waits = 0; faults = 0; numbers = length book.batches ∷ [] }
+one_look book = record { written = []; looks = 1; waits = 0; faults = 0; numbers = length book.batches ∷ []; waited = [] }
 
 -- the look of an import, while so many faults of records are counted. It has no number
 abbrev pub edit_look : ℕ → Told
-edit_look faults = record { written = []; looks = 1; waits = 0; faults = faults; numbers = [] }
+edit_look faults = record { written = []; looks = 1; waits = 0; faults = faults; numbers = []; waited = [] }
 
--- a wait
-abbrev pub one_wait : Told
-one_wait = record { written = []; looks = 0; waits = 1; faults = 0; numbers = [] }
+-- a wait for a book with more batches than so many
+abbrev pub one_wait : ℕ → Told
+one_wait known = record { written = []; looks = 0; waits = 1; faults = 0; numbers = []; waited = known ∷ [] }
 
 -- one after the other
 abbrev pub both : Told → Told → Told
@@ -40,18 +41,21 @@ both first second = record {
   waits = first.waits + second.waits;
   faults = first.faults + second.faults;
   numbers = first.numbers ++ second.numbers;
+  waited = first.waited ++ second.waited;
 }
 
 -- the same of which nothing is written
 abbrev pub unwritten : Told → Told
 unwritten told = record told { written = [] }
 
--- what an office counts: looks, waits, faults of its records, and the numbers of the books that were looked at, where it tells them
+-- what an office counts: looks, waits, faults of its records, and the numbers of the books that were looked at and those that were
+-- waited past, where it tells them
 pub record Tally : Type 0 where
   pub looks : ℕ
   pub waits : ℕ
   pub faults : ℕ
   pub numbers : Option (List ℕ)
+  pub waited : Option (List ℕ)
 
 -- a count that has risen so often
 abbrev pub risen : ℕ → ℕ → ℕ
@@ -65,6 +69,7 @@ tally_after tally told = record {
   waits = risen tally.waits told.waits;
   faults = risen tally.faults told.faults;
   numbers = extended tally.numbers told.numbers;
+  waited = extended tally.waited told.waited;
 }
 
 -- an office came from one tally to another by so much, of which this holds
@@ -78,6 +83,7 @@ pub record MayBeLook (told : Told) : Type 0 where
   pub looks : told.looks ≤ 1
   pub faults : told.faults ≡ 0
   pub numbers : length told.numbers ≤ 1
+  pub waited : told.waited ≡ []
 
 -- an import that memory was wanting for: its look may be counted, and it has no number
 pub record MayBeEditLook (told : Told) : Type 0 where
@@ -85,6 +91,7 @@ pub record MayBeEditLook (told : Told) : Type 0 where
   pub waits : told.waits ≡ 0
   pub looks : told.looks ≤ 1
   pub numbers : told.numbers ≡ []
+  pub waited : told.waited ≡ []
 
 -- what a link has out, and what an office counts
 pub record Account : Type 0 where

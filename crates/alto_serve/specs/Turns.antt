@@ -1,5 +1,5 @@
 -- What a request is told, and what becomes of the book.
-use Rattle.std.specs.Prelude.{◌≡◌, ◌⊎◌, ℕ, zero, suc, Bool, true, false, [], Option, Some, None, IfSome, Result}
+use Rattle.std.specs.Prelude.{◌≡◌, ◌⊎◌, ℕ, zero, suc, Bool, true, false, [], length, Option, Some, None, IfSome, Result}
 use Rattle.alto_book.specs.Book.{Book}
 use Rattle.alto_book.specs.Import.{Import}
 use Rattle.alto_book.specs.declared.command.Receipt.{Receipt}
@@ -58,7 +58,7 @@ ComesTo setting request (suc turns) (answer.Reply reply) now told after =
 ComesTo setting request (suc turns) (answer.Edit import) now told after =
     Concludes setting.alone setting.time request.close (answer.Edit import) now told after
 ComesTo setting request (suc turns) (answer.Hold of i j) now told after =
-    (next : Book) × IsLook setting.alone now next × (rest : Told) × (told ≡ both one_wait (both (one_look next) rest))
+    (next : Book) × IsLook setting.alone now next × (rest : Told) × (told ≡ both (one_wait (length now.batches)) (both (one_look next) rest))
     × ComesTo setting request turns (answer_to request next setting.side) next rest after
 
 -- a request has its turn, at a book that was seen before and one that is seen after: it begins with a look
@@ -88,8 +88,8 @@ FallsShort setting request (suc turns) (answer.Edit import) now told after =
     IsLost setting.alone setting.time request.close (answer.Edit import) now told after
 FallsShort setting request (suc turns) (answer.Hold of i j) now told after =
     ((told ≡ nothing) × (after ≡ now))
-    ⊎ ((vain : Told) × (told ≡ both one_wait vain) × IsVainLook setting.alone now vain after)
-    ⊎ ((next : Book) × IsLook setting.alone now next × (rest : Told) × (told ≡ both one_wait (both (one_look next) rest))
+    ⊎ ((vain : Told) × (told ≡ both (one_wait (length now.batches)) vain) × IsVainLook setting.alone now vain after)
+    ⊎ ((next : Book) × IsLook setting.alone now next × (rest : Told) × (told ≡ both (one_wait (length now.batches)) (both (one_look next) rest))
     × FallsShort setting request turns (answer_to request next setting.side) next rest after)
 
 -- a request has begun its turn, and memory was wanting for its reply: in its first look or later

@@ -23,8 +23,8 @@ pub trait Looks {
     /// The book that was seen last.
     ghost seen: { Self → Book };
 
-    /// How often it was looked and waited, how many faults of records were counted, and the numbers of the books that were looked at,
-    /// where they are told.
+    /// How often it was looked and waited, how many faults of records were counted, and the numbers of the books that were looked at
+    /// and those that were waited past, where they are told.
     ghost tally: { Self → Tally };
 
     /// Looks: gives the version of a book that is seen from then on.
@@ -51,5 +51,5 @@ pub trait Office: Looks {
     /// Waits until the book may have more batches than so many. It may end at any time.
     fn wait(&mut self, known: u64)
         ensures book { Self.seen self.new ≡ Self.seen self.old }
-        ensures tally { Self.tally self.new ≡ tally_after (Self.tally self.old) one_wait };
+        ensures tally { Self.tally self.new ≡ tally_after (Self.tally self.old) (one_wait known) };
 }

@@ -4,10 +4,10 @@ use Rattle.alto_serve.proofs.ConnectionLemmas.{served_more, served_never, served
 use Rattle.alto_serve.proofs.serve.serve_conn.Goals as goal
 
 pub returns-in_default-clause-served : goal.returns-in_default-clause-served
-returns-in_default-clause-served g c = served_never _ _ (g.L.Link.left c.args.link.now) _ _
+returns-in_default-clause-served g c = served_never _ (g.L.Link.left c.args.link.now) _ _
 
 pub returns-in_default-new-clause-served : goal.returns-in_default-new-clause-served
-returns-in_default-new-clause-served g c = served_never _ _ (g.L.Link.left c.args.link.now) _ _
+returns-in_default-new-clause-served g c = served_never _ (g.L.Link.left c.args.link.now) _ _
 
 pub returns-in-Some-clause-served : goal.returns-in-Some-clause-served
 returns-in-Some-clause-served g c =

@@ -7,6 +7,7 @@ pub loop-turn-init : goal.loop-turn-init
 loop-turn-init g c = let all : c.args.turns - 0 ≡ c.args.turns = omega arith in record {
   come = λ time. come_first _ _ _ _ _ _ _ _ all c.in_ok-look.ensures.book c.in_ok-look.ensures.tally c.in_ok-look.ensures.answer;
   met = c.in_ok-look.ensures.answer;
+  number = c.in_ok-look.ensures.number;
   edits = c.in_ok-look.ensures.edits;
   replies = c.in_ok-look.ensures.replies;
   seen = c.in_ok-look.ensures.book;
@@ -24,18 +25,21 @@ pub returns-in_err-look-2-clause-err : goal.returns-in_err-look-2-clause-err
 returns-in_err-look-2-clause-err g c =
     let held : is_held c.loop-turn.look.answer ≡ true = cc in
     let one_left : c.args.turns - c.loop-turn._turn ≡ suc (c.args.turns - (c.loop-turn._turn + 1)) = omega arith in
+    let waited = rw c.loop-turn.invariant.number at c.wait.ensures.tally in
     let vain = rw c.wait.ensures.book at c.in_err-look-2.ensures.err in
-    on_err_anyhow _ (begun_look _ _ _ _ _ _ _ _ _ _ _ _ _ _ held one_left c.loop-turn.invariant.come c.wait.ensures.tally vain)
+    on_err_anyhow _ (begun_look _ _ _ _ _ _ _ _ _ _ _ _ _ _ held one_left c.loop-turn.invariant.come waited vain)
 
 pub loop-turn-preserved : goal.loop-turn-preserved
 loop-turn-preserved g c =
     let held : is_held c.loop-turn.look.answer ≡ true = cc in
     let one_left : c.args.turns - c.loop-turn._turn ≡ suc (c.args.turns - (c.loop-turn._turn + 1)) = omega arith in
+    let waited = rw c.loop-turn.invariant.number at c.wait.ensures.tally in
     let look = rw c.wait.ensures.book at c.in_ok-look-2.ensures.book in
     record {
-      come = λ time. come_more _ _ _ _ _ _ _ _ _ _ _ _ _ held one_left (c.loop-turn.invariant.come time) c.wait.ensures.tally look
+      come = λ time. come_more _ _ _ _ _ _ _ _ _ _ _ _ _ held one_left (c.loop-turn.invariant.come time) waited look
           c.in_ok-look-2.ensures.tally c.in_ok-look-2.ensures.answer;
       met = c.in_ok-look-2.ensures.answer;
+      number = c.in_ok-look-2.ensures.number;
       edits = c.in_ok-look-2.ensures.edits;
       replies = c.in_ok-look-2.ensures.replies;
       seen = look_on _ _ _ _ c.loop-turn.invariant.seen look;

@@ -1,4 +1,4 @@
-use Rattle.std.proofs.Common.{◌≡◌, ◌-◌, ℕ, Option}
+use Rattle.std.proofs.Common.{◌≡◌, ◌-◌, ℕ, length, Option}
 use Rattle.alto_answers.specs.Answers.{answer_to, BringsEdits, HasBytes}
 use Rattle.alto_serve.specs.Looks.{IsLook}
 use Rattle.alto_serve.specs.Told.{Counts}
@@ -13,6 +13,7 @@ invariant-loop-turn g l = record {
       l.look.answer (g.F.Looks.seen l.office))
       (g.F.Looks.tally l.fn.office) (g.F.Looks.tally l.office);
   met : l.look.answer ≡ answer_to l.fn.request (g.F.Looks.seen l.office) l.fn.routes;
+  number : l.look.number ≡ length (g.F.Looks.seen l.office).batches;
   edits : BringsEdits l.look.answer;
   replies : HasBytes l.look.answer;
   seen : IsLook g.F.Looks.alone (g.F.Looks.seen l.fn.office) (g.F.Looks.seen l.office);
