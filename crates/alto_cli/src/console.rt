@@ -1,3 +1,5 @@
+ghost use Rattle.std.specs.Prelude.{◌≡◌};
+
 use alto_http::{Failed, Link};
 use std::io::{Read, Write};
 
@@ -12,7 +14,12 @@ pub struct Console<I: Read + Drop, O: Write + Drop> {
 
 impl<I: Read + Drop, O: Write + Drop> Console<I, O> {
     /// A console without a fault so far.
-    pub fn new(input: I, output: O) -> Self {
+    pub fn new(input: I, output: O) -> Self
+        ensures input { result.input ≡ input }
+        ensures output { result.output ≡ output }
+        ensures reads { result.failed_reads ≡ 0 }
+        ensures writes { result.failed_writes ≡ 0 }
+    {
         Console {
             input,
             output,
@@ -23,7 +30,9 @@ impl<I: Read + Drop, O: Write + Drop> Console<I, O> {
 }
 
 impl<I: Read + Drop, O: Write + Drop> Link for Console<I, O> {
-    ghost use Rattle.std.specs.Prelude.{None};
+    ghost use Rattle.std.specs.Prelude.{◌≡◌, ◌<◌, ◌≤◌, None, length, take, IfOk, OnErr};
+    ghost use Rattle.std.specs.Io.KnownBytes.{ReadConsumes, WriteAppends};
+    ghost use Rattle.alto_http.specs.Link.{count_after, extended, followed_by, IsAtEnd};
 
     ghost left = { λ _. None };
 
@@ -33,7 +42,17 @@ impl<I: Read + Drop, O: Write + Drop> Link for Console<I, O> {
 
     ghost failed_writes = { λ console. console.failed_writes };
 
-    fn read(&mut self, into: &mut [u8]) -> Result<usize, Failed> {
+    /// What the input gives is what is read, where it tells its bytes.
+    fn read(&mut self, into: &mut [u8]) -> Result<usize, Failed>
+        ensures bytes { ReadConsumes (I.remaining self.old.input) (I.remaining self.new.input) result into.new }
+        ensures output { self.new.output ≡ self.old.output }
+
+        ensures within { IfOk result (λ k. k ≤ length into.new) }
+        ensures given { IfOk result (λ k. None ≡ followed_by (take k into.new) None) }
+        ensures at_end { IfOk result (λ k. k ≡ 0 → 0 < length into.new → IsAtEnd None) }
+        ensures counted { self.new.failed_reads ≡ count_after result self.old.failed_reads }
+        ensures failed_writes { self.new.failed_writes ≡ self.old.failed_writes }
+    {
         match self.input.read(into) {
             Ok(count) => Ok(count),
             Err(_) => {
@@ -43,8 +62,17 @@ impl<I: Read + Drop, O: Write + Drop> Link for Console<I, O> {
         }
     }
 
-    /// A write that takes nothing of a nonempty piece is a fault.
-    fn write(&mut self, piece: &[u8]) -> Result<usize, Failed> {
+    /// What is put out is what the output takes, where it tells its bytes. A write that takes nothing of a nonempty piece is a fault.
+    fn write(&mut self, piece: &[u8]) -> Result<usize, Failed>
+        ensures bytes { WriteAppends (O.contents self.old.output) (O.contents self.new.output) result piece.now }
+        ensures input { self.new.input ≡ self.old.input }
+
+        ensures within { IfOk result (λ k. k ≤ length piece.now) }
+        ensures some { IfOk result (λ k. 0 < length piece.now → 0 < k) }
+        ensures put { IfOk result (λ k. None ≡ extended None (take k piece.now)) }
+        ensures counted { self.new.failed_writes ≡ count_after result self.old.failed_writes }
+        ensures failed_reads { self.new.failed_reads ≡ self.old.failed_reads }
+    {
         match self.output.write(piece) {
             Ok(count) if count > 0 || piece.is_empty() => Ok(count),
             _ => {
