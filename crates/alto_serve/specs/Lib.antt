@@ -3,3 +3,4 @@ pub mod Told
 pub mod Turns
 pub mod Connections
 pub mod Steps
+pub mod Walks

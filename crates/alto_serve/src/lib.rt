@@ -1,7 +1,7 @@
 //! Connections: requests are read, each is answered at the version that an office has then, and the replies are written.
 //!
 //! ```text
-//! Link ── read_request ──▶ Request ── answer ──▶ Answer ── settled, concluded ──▶ Reply ── write_all ──▶ Link
+//! Link ── read_request ──▶ Request ── answer ──▶ Answer ── settled, conclude ──▶ Reply ── write_all ──▶ Link
 //!                                       ▲                      │
 //!                        Office: a look at a version    a wait, an import
 //! ```
@@ -9,6 +9,7 @@
 
 mod clock;
 mod end;
+mod laws;
 mod office;
 mod refuse;
 mod serve;
@@ -21,6 +22,7 @@ pub use alto_answers::{Answer, Place, Routes, Side, answer, edge_number};
 pub use alto_replies::{Reply, reply_bytes};
 pub use clock::{Clock, FixedClock};
 pub use end::End;
+pub use laws::{connections_lead_on, ends_lead_on};
 pub use office::{Looks, Office};
 pub use serve::serve_conn;
 pub use solo::Solo;
