@@ -229,3 +229,25 @@ fn a_graph_has_the_rows_at_each_kept_number(rt: HostRuntime) -> Result<(), Fail>
     }
     Ok(())
 }
+
+#[test]
+fn faults_are_printed(rt: HostRuntime) -> Result<(), Fail> {
+    let row = 3;
+    let rule = Rule::G4;
+    for (fault, text) in [
+        (
+            EditFault::OtherBody { n: 1 },
+            "batch 1 has this id and another body",
+        ),
+        (EditFault::Broken { row, rule }, "edit 3 breaks rule G4"),
+        (
+            EditFault::Keeper,
+            "the records of the batches couldn't be kept",
+        ),
+        (EditFault::Memory, "out of memory"),
+    ] {
+        let printed = format!(in rt.alloc(); "{fault}")?;
+        assert_eq!(rt; printed.as_str(), text);
+    }
+    Ok(())
+}

@@ -1,4 +1,4 @@
--- A reply and its bytes (RFC 9112, sections 4 to 6; phrases of RFC 9110, section 15).
+-- A reply and its bytes (RFC 9112, sections 4 to 6; phrases of RFC 9110, section 15, but 425 of RFC 8470 and 431 of RFC 6585).
 use Rattle.std.specs.Prelude.{◌≡◌, ◌≢◌, ℕ, Bool, true, false, List, [], ◌∷◌, ◌++◌, length, Option, Some, None, is_some, unwrap_or, codes, decimal, ◌==◌}
 use Rattle.std.specs.Map.{lookup}
 use Rattle.httparse.specs.Ascii.{crlf_bytes}

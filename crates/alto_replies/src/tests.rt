@@ -1,6 +1,6 @@
 use crate::{
-    Reply, bad_form, edit_reply, form_reply, head_status, not_found, reply_bytes, reply_or_error,
-    status_alone, wrong_method,
+    Reply, bad_form, edit_reply, form_reply, gone, head_status, not_found, reply_bytes,
+    reply_or_error, status_alone, too_early, wrong_method,
 };
 use alto_asks::{AskCode, AskFault};
 use alto_book::{EditFault, Receipt};
@@ -62,6 +62,21 @@ fn refusals_tell_why(rt: HostRuntime) -> Result<(), Fail> {
         422,
         b"{\"row\":3,\"rule\":\"G4\",\"status\":422}",
     );
+    Ok(())
+}
+
+#[test]
+fn lost_batches_and_edges_that_cannot_be_had_are_told(rt: HostRuntime) -> Result<(), Fail> {
+    let alloc = rt.alloc();
+    let lost = edit_reply(alloc, Err(EditFault::Keeper))?;
+    let lost = reply_bytes(alloc, &lost, false)?;
+    let expected =
+        b"HTTP/1.1 503 Service Unavailable\r\nContent-Type: application/json\r\nContent-Length: 14\r\n\r\n{\"status\":503}";
+    assert_eq!(rt; lost.as_slice(), expected.as_slice());
+    let before = gone(alloc, 3)?;
+    expect_body(&rt, &before, 410, b"{\"start-seq\":3,\"status\":410}");
+    let behind = too_early(alloc, 3)?;
+    expect_body(&rt, &behind, 425, b"{\"end-seq\":3,\"status\":425}");
     Ok(())
 }
 

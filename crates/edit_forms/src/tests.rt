@@ -672,3 +672,21 @@ fn as_many_lines_as_an_import_may_have_are_read(rt: HostRuntime) -> Result<(), F
     assert_eq!(rt; edits.len(), 16_384);
     Ok(())
 }
+
+#[test]
+fn faults_are_printed(rt: HostRuntime) -> Result<(), Fail> {
+    for (fault, expected) in [
+        (FormFault::Syntax, "no JSON object with a list of edits"),
+        (FormFault::Empty, "no edit"),
+        (
+            FormFault::BadRecord(20),
+            "row 20 hasn't the columns of an edit",
+        ),
+        (FormFault::BadColumn(3, 6), "row 3 has a fault in column 6"),
+        (FormFault::Memory, "out of memory"),
+    ] {
+        let printed = format!(in rt.alloc(); "{fault}")?;
+        assert_eq!(rt; printed.as_str(), expected);
+    }
+    Ok(())
+}

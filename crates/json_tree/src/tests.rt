@@ -95,8 +95,13 @@ fn has_text(alloc: Global, tree: &Tree, expected: &str) -> Result<bool, AllocErr
 #[test]
 fn members_stand_in_byte_order(rt: HostRuntime) -> Result<(), Fail> {
     let alloc = rt.alloc();
-    let tree = network_map(alloc, "metro", "e1-1", &[])?;
-    let expected = r#"{"meta":{"vtag":{"resource-id":"metro","tag":"e1-1"}},"network-map":{}}"#;
+    let names = [
+        Name::from_str(alloc, "west")?,
+        Name::from_str(alloc, "east")?,
+    ];
+    let tree = network_map(alloc, "metro", "e1-1", &names)?;
+    let expected =
+        r#"{"meta":{"vtag":{"resource-id":"metro","tag":"e1-1"}},"network-map":{"east":{},"west":{}}}"#;
     assert!(rt; has_text(alloc, &tree, expected)?, "{tree:?}");
     Ok(())
 }

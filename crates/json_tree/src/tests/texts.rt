@@ -179,3 +179,19 @@ fn a_tree_is_looked_into(rt: HostRuntime) -> Result<(), Fail> {
     assert!(rt; tree.as_text().is_none(), "no text");
     Ok(())
 }
+
+#[test]
+fn faults_are_printed(rt: HostRuntime) -> Result<(), Fail> {
+    for (fault, expected) in [
+        (TreeFault::Syntax, "no JSON text"),
+        (
+            TreeFault::NotWhole,
+            "a number that isn't a whole number from 0 to 2^64 - 1",
+        ),
+        (TreeFault::Memory, "out of memory"),
+    ] {
+        let printed = format!(in rt.alloc(); "{fault}")?;
+        assert_eq!(rt; printed.as_str(), expected);
+    }
+    Ok(())
+}
