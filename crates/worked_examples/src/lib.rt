@@ -8,6 +8,7 @@ mod edges;
 mod imports;
 mod maps;
 mod views;
+mod walks;
 
 pub use edges::{
     a_snapshot_is_of_its_own_number, a_step_adds_a_group, an_edge_below_the_window_is_gone,
@@ -17,5 +18,6 @@ pub use imports::{
     a_bad_name_tells_row_and_column, a_known_import_is_told_again,
     a_refused_import_names_row_and_rule, records_and_items_are_edits,
 };
-pub use maps::{a_map_names_its_pids, an_unknown_network_has_no_map};
+pub use maps::a_map_is_of_a_declared_network;
 pub use views::a_view_tells_the_step_onward;
+pub use walks::a_walk_leads_to_the_map;

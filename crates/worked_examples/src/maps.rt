@@ -4,13 +4,9 @@ ghost use Rattle.std.specs.Prelude.{◌≡◌, codes};
 ghost use Rattle.worked_examples.specs.Requests.{map_at, network_map, refusal};
 ghost use Rattle.worked_examples.specs.Story.{metro_book};
 
-/// The map has both PIDs, and the tag of the last number.
-pub fn a_map_names_its_pids()
-    ensures { map_at (codes "/maps/metro") (metro_book 8)
+/// The map of a declared network has its PIDs, and the tag of the last number.
+pub fn a_map_is_of_a_declared_network()
+    ensures declared { map_at (codes "/maps/metro") (metro_book 8)
         ≡ network_map (codes "{\"meta\":{\"vtag\":{\"resource-id\":\"metro\",\"tag\":\"e1-3\"}},\"network-map\":{\"east\":{},\"west\":{}}}") }
-{}
-
-/// A network that isn't declared.
-pub fn an_unknown_network_has_no_map()
-    ensures { map_at (codes "/maps/other") (metro_book 8) ≡ refusal 404 (codes "{\"status\":404,\"why\":\"resource\"}") }
+    ensures unknown { map_at (codes "/maps/other") (metro_book 8) ≡ refusal 404 (codes "{\"status\":404,\"why\":\"resource\"}") }
 {}
