@@ -44,12 +44,13 @@ build_program() (
     name=$(toolchain) || { say "the command rt of the Rattle toolchain isn't in PATH"; exit 1; }
     say "proving and building the program with $name; from nothing this takes minutes"
 
-    # rt runs what it has built: here with no words, which the program refuses, so its output and its status are passed over.
-    # Only the line that rt prints before that says that all is proved and built.
+    # The libraries come first, side by side, and rt run builds the program over them. It runs what it has built: here with no
+    # words, which the program refuses, so its output and its status are passed over. Only the line that rt prints before that
+    # says that all is proved and built.
     (
         unset RT_BACKEND
-        cd -- "$top/crates/alto_cli" && rt run 2>&1 >/dev/null
-    ) 9>&- | tee -- "$kept/log" 9>&- >&2
+        cd -- "$top/crates/alto_cli" && "$top/tools/build-libraries" . && rt run
+    ) 2>&1 >/dev/null 9>&- | tee -- "$kept/log" 9>&- >&2
     grep -q '^rt: running out/alto_cli;' "$kept/log" || { say "the program isn't proved and built: see $kept/log"; exit 1; }
     [ "$(sources_sum)" = "$sum" ] || { say "the sources changed while they were proved: run it again"; exit 1; }
     keep_program "$sum" "$top/crates/alto_cli/out/alto_cli" || { say "can't write in $kept"; exit 1; }
