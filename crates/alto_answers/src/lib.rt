@@ -21,8 +21,6 @@ mod outcome;
 mod route;
 mod routes;
 mod target;
-#[cfg(test)]
-mod tests;
 mod tips;
 mod types;
 

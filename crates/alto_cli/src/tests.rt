@@ -1,271 +1,293 @@
-mod edges;
-mod heads;
-mod imports;
-mod ordinary_use;
-mod views;
-
 use crate::run::run;
+use alto_answers::{Place, Routes, Side};
+use alto_book::EditFault;
 use alto_http::MemLink;
+use alto_replies::{edit_reply, reply_bytes};
 use alto_serve::FixedClock;
 use json_tree::Name;
 use std::alloc::{AllocError, Global};
 use std::test::Fail;
 
-/// The import of one network and two looks at maps, with their replies.
-const FIRST_RUN: &str =
-    "POST /edits/i1 HTTP/1.1\r\nContent-Type: text/csv\r\nContent-Length: 18\r\n\r\nnet-add,metro,,,,\nGET /maps/metro HTTP/1.1\r\n\r\nGET /maps/other HTTP/1.1\r\n\r\n";
+/// The requests of one connection, each with its reply, in six parts: the method and the target, the fields and the body of the request,
+/// where `~` stands for an end of line; the status, the media type and further fields, and the body of the reply.
+const TALK: &str = r#"GET /maps/metro | | | 404 Not Found | json | {"status":404,"why":"resource"}
+POST /edits/i1 | Content-Type: text/csv~ | net-add,metro,,,,~ | 200 OK | json | {"moment":100,"n":1}
+GET /maps/metro?x=1 | | | 200 OK | alto-networkmap+json | {"meta":{"vtag":{"resource-id":"metro","tag":"e1-1"}},"network-map":{}}
+POST /edits/i2 | Content-Type: Text/CSV ; charset=utf-8~ | net-add,metro,,,,~ | 422 Unprocessable Content | json | {"row":1,"rule":"G1","status":422}
+POST /edits/i2 | Content-Type: text/csv~ | pid-add,metro,east,,,~pid-add,other,east,,,~pid-add,metro,west,,,~ | 422 Unprocessable Content | json | {"row":2,"rule":"G3","status":422}
+POST /edits/i2 | Content-Type: text/csv~ | pid-add,metro,east,,,~pid-add,metro,east,,,~pid-add,metro,west,,,~ | 422 Unprocessable Content | json | {"row":2,"rule":"G4","status":422}
+POST /edits/i2 | Content-Type: text/csv~ | pid-add,metro,east,,~ | 400 Bad Request | json | {"column":0,"row":1,"status":400}
+POST /edits/i2 | Content-Type: text/csv~ | pid-add,metro,ea.st,,,~ | 400 Bad Request | json | {"column":3,"row":1,"status":400}
+POST /edits/i2 | Content-Type: text/csv~ | pid-add,metro,east,,,~pid-put,metro,east,,,~ | 400 Bad Request | json | {"column":1,"row":2,"status":400}
+POST /edits/i2 | Content-Type: text/csv~ | | 400 Bad Request | json | {"column":0,"row":0,"status":400}
+POST /edits/i2 | Content-Type: application/json~ | {"edits":[["pid-add","metro","ea.st"]]} | 400 Bad Request | json | {"column":3,"row":1,"status":400}
+POST /edits/i2 | Content-Type: application/json~ | {} | 400 Bad Request | json | {"column":0,"row":0,"status":400}
+POST /edits/i2 | Content-Type: text/plain~ | | 415 Unsupported Media Type | json | {"status":415}
+POST /edits/i%202 | Content-Type: text/csv~ | | 400 Bad Request | json | {"column":0,"row":0,"status":400}
+GET /maps/metro | | | 200 OK | alto-networkmap+json | {"meta":{"vtag":{"resource-id":"metro","tag":"e1-1"}},"network-map":{}}
+POST /edits/i2 | Content-Type: application/json~ | {"edits":[["pid-add","metro","east"]]} | 200 OK | json | {"moment":100,"n":2}
+GET http://alto.example/maps/m%65tro | | | 200 OK | alto-networkmap+json | {"meta":{"vtag":{"resource-id":"metro","tag":"e1-2"}},"network-map":{"east":{}}}
+POST /edits/i3 | Content-Type: text/csv~ | pid-add,metro,west,,,~ | 200 OK | json | {"moment":100,"n":3}
+POST /edits/i%31 | Content-Type: text/csv~ | net-add,metro,,,,~ | 200 OK | json | {"moment":100,"n":1}
+POST /edits/i1 | Content-Type: text/csv~ | net-add,other,,,,~ | 409 Conflict | json | {"n":1,"status":409}
+GET /tips/metro/ug/0/1 | | | 200 OK | alto-networkmap+json | {"meta":{"vtag":{"resource-id":"metro","tag":"e1-1"}},"network-map":{}}
+GET /tips/metro/ug/0/2 | | | 200 OK | alto-networkmap+json | {"meta":{"vtag":{"resource-id":"metro","tag":"e1-2"}},"network-map":{"east":{}}}
+GET /tips/metro/ug/0/3 | | | 200 OK | alto-networkmap+json | {"meta":{"vtag":{"resource-id":"metro","tag":"e1-3"}},"network-map":{"east":{},"west":{}}}
+GET /tips/metro/ug/1/2 | | | 200 OK | merge-patch+json | {"meta":{"vtag":{"tag":"e1-2"}},"network-map":{"east":{}}}
+GET /tips/metro/ug/2/%33 | | | 200 OK | merge-patch+json | {"meta":{"vtag":{"tag":"e1-3"}},"network-map":{"west":{}}}
+GET /tips/metro/ug/0/0 | | | 404 Not Found | json | {"status":404,"why":"edge"}
+GET /tips/metro/ug/3/2 | | | 404 Not Found | json | {"status":404,"why":"edge"}
+GET /tips/metro/ug/5/7 | | | 404 Not Found | json | {"status":404,"why":"edge"}
+GET /tips/metro/ug/01/2 | | | 404 Not Found | json | {"status":404,"why":"edge"}
+GET /tips/metro/ug/1/+2 | | | 404 Not Found | json | {"status":404,"why":"edge"}
+GET /tips/metro/ug/0/1234567890123456789 | | | 404 Not Found | json | {"status":404,"why":"edge"}
+GET /tips/metro/ug/0/123456789012345678 | | | 425 Too Early | json | {"end-seq":3,"status":425}
+GET /tips/metro/ug/0/4 | | | 425 Too Early | json | {"end-seq":3,"status":425}
+GET /tips/metro/ug/5/6 | | | 425 Too Early | json | {"end-seq":3,"status":425}
+GET /tips/metro/ug/3/4 | | | 425 Too Early | json | {"end-seq":3,"status":425}
+GET /tips/other/ug/0/1 | | | 404 Not Found | json | {"status":404,"why":"resource"}
+GET /tips/metro:prop/ug/0/1 | | | 404 Not Found | json | {"status":404,"why":"resource"}
+GET /tips/metro/ug/1 | | | 404 Not Found | json | {"status":404,"why":"route"}
+POST /tips | Content-Type: application/alto-tipsparams+json; a=b~ | {"resource-id":"metro","tag":"e1-2"} | 200 OK | alto-tips+json | {"tips-view-summary":{"updates-graph-summary":{"end-seq":3,"start-edge-rec":{"seq-i":2,"seq-j":3},"start-seq":1}},"tips-view-uri":"http://localhost/tips/metro"}
+POST /tips | Host: alto.example:8080~Content-Type: application/alto-tipsparams+json~ | {"resource-id":"metro","tag":"e1-3"} | 200 OK | alto-tips+json | {"tips-view-summary":{"updates-graph-summary":{"end-seq":3,"start-edge-rec":{"seq-i":3,"seq-j":4},"start-seq":1}},"tips-view-uri":"http://alto.example:8080/tips/metro"}
+POST /tips | Host: [::1]:80~Content-Type: application/alto-tipsparams+json~ | {"resource-id":"metro"} | 200 OK | alto-tips+json | {"tips-view-summary":{"updates-graph-summary":{"end-seq":3,"start-edge-rec":{"seq-i":0,"seq-j":3},"start-seq":1}},"tips-view-uri":"http://[::1]:80/tips/metro"}
+POST /tips | Host: no/host~Content-Type: application/alto-tipsparams+json~ | {"unknown":7,"resource-id":"metro","tag":"e2-2"} | 200 OK | alto-tips+json | {"tips-view-summary":{"updates-graph-summary":{"end-seq":3,"start-edge-rec":{"seq-i":0,"seq-j":3},"start-seq":1}},"tips-view-uri":"http://localhost/tips/metro"}
+POST /tips | Content-Type: application/alto-tipsparams+json~ | {"resource-id":"metro" | 400 Bad Request | alto-error+json | {"meta":{"code":"E_SYNTAX"}}
+POST /tips | Content-Type: application/alto-tipsparams+json~ | {"a":1.5,"resource-id":"metro"} | 400 Bad Request | alto-error+json | {"meta":{"code":"E_SYNTAX"}}
+POST /tips | Content-Type: application/alto-tipsparams+json~ | {"tag":7} | 400 Bad Request | alto-error+json | {"meta":{"code":"E_MISSING_FIELD","field":"resource-id"}}
+POST /tips | Content-Type: application/alto-tipsparams+json~ | {"resource-id":7,"tag":7} | 400 Bad Request | alto-error+json | {"meta":{"code":"E_INVALID_FIELD_TYPE","field":"resource-id"}}
+POST /tips | Content-Type: application/alto-tipsparams+json~ | {"resource-id":"metro:prop","tag":7} | 400 Bad Request | alto-error+json | {"meta":{"code":"E_INVALID_FIELD_VALUE","field":"resource-id","value":"metro:prop"}}
+POST /tips | Content-Type: application/alto-tipsparams+json~ | {"resource-id":"metro","tag":7} | 400 Bad Request | alto-error+json | {"meta":{"code":"E_INVALID_FIELD_TYPE","field":"tag"}}
+POST /tips | Content-Type: application/json~ | {"resource-id":"metro"} | 415 Unsupported Media Type | json | {"status":415}
+PUT /maps/metro | | | 405 Method Not Allowed | json~Allow: GET | {"status":405}
+GET /tips | | | 405 Method Not Allowed | json~Allow: POST | {"status":405}
+GET /map/metro | | | 404 Not Found | json | {"status":404,"why":"route"}"#;
 
-const FIRST_REPLIES: &str =
-    "HTTP/1.1 200 OK\r\nContent-Type: application/json\r\nContent-Length: 20\r\n\r\n{\"moment\":100,\"n\":1}HTTP/1.1 200 OK\r\nContent-Type: application/alto-networkmap+json\r\nContent-Length: 71\r\n\r\n{\"meta\":{\"vtag\":{\"resource-id\":\"metro\",\"tag\":\"e1-1\"}},\"network-map\":{}}HTTP/1.1 404 Not Found\r\nContent-Type: application/json\r\nContent-Length: 31\r\n\r\n{\"status\":404,\"why\":\"resource\"}";
+/// Heads that are refused, each with its status; `~` stands for an end of line.
+const REFUSED_HEADS: &str = "GET /maps/metro HTTP/9.9~~ | 400 Bad Request
+GET /maps/metro HTTP/1.1~Transfer-Encoding: chunked~~ | 501 Not Implemented
+POST /tips HTTP/1.1~~ | 411 Length Required
+POST /tips HTTP/1.1~Content-Length: 4194305~~ | 413 Content Too Large
+POST /tips HTTP/1.1~Content-Length: +1~~ | 400 Bad Request
+POST /tips HTTP/1.1~Content-Length: 0~Content-Length: 0~~ | 400 Bad Request";
 
-const METRO: &str =
-    "{\"meta\":{\"vtag\":{\"resource-id\":\"metro\",\"tag\":\"e1-1\"}},\"network-map\":{}}";
+/// Views and steps after thirty-one imports, of which the last eight numbers are kept.
+const LATER_TALK: &str =
+    r#"POST /tips | Host: h~Content-Type: application/alto-tipsparams+json~ | {"resource-id":"metro","tag":"e1-20"} | 200 OK | alto-tips+json | {"tips-view-summary":{"updates-graph-summary":{"end-seq":31,"start-edge-rec":{"seq-i":0,"seq-j":31},"start-seq":24}},"tips-view-uri":"http://h/tips/metro"}
+POST /tips | Host: h~Content-Type: application/alto-tipsparams+json~ | {"resource-id":"metro","tag":"e1-24"} | 200 OK | alto-tips+json | {"tips-view-summary":{"updates-graph-summary":{"end-seq":31,"start-edge-rec":{"seq-i":24,"seq-j":25},"start-seq":24}},"tips-view-uri":"http://h/tips/metro"}
+GET /tips/metro/ug/0/23 | | | 410 Gone | json | {"start-seq":24,"status":410}
+GET /tips/metro/ug/23/24 | | | 410 Gone | json | {"start-seq":24,"status":410}
+GET /tips/metro/ug/24/25 | | | 200 OK | merge-patch+json | {"meta":{"vtag":{"tag":"e1-25"}},"network-map":{"q25":{}}}
+GET /tips/metro/ug/30/31 | | | 200 OK | merge-patch+json | {"meta":{"vtag":{"tag":"e1-31"}},"network-map":{"q31":{}}}"#;
 
-const METRO_EAST: &str =
-    "{\"meta\":{\"vtag\":{\"resource-id\":\"metro\",\"tag\":\"e1-2\"}},\"network-map\":{\"east\":{}}}";
+/// Paths, each with the place that a client is led to, and the place that the operator is led to.
+const PATHS: &str = "/maps/metro | maps | none
+/maps/a%2Fb | maps | none
+/maps//x | none | none
+/maps/ | none | none
+/maps/metro/ | none | none
+maps/metro | none | none
+/edits/i1 | none | edits
+/tips | tips | none
+/tips/ | none | none
+/tips/metro | none | none
+/tips/metro/ug/0/1 | edge | none
+/tips/metro/ug/0/1/ | none | none
+/tips/metro/up/0/1 | none | none";
 
-pub(crate) fn words(alloc: Global, texts: &[&str]) -> Result<Vec<Name>, AllocError> {
-    let mut words = Vec::new(alloc);
-    for text in texts {
-        words.push(Name::from_str(alloc, text)?)?;
+/// What stands before a bar in a line, and what stands behind it.
+fn parted(line: &str) -> (&str, &str) {
+    let (part, rest) = line.split_once('|').unwrap_or((line, ""));
+    (part.trim(), rest)
+}
+
+/// A request: its method and target, its fields and its body.
+fn request(alloc: Global, start: &str, fields: &str, body: &str) -> Result<String, AllocError> {
+    let fields = fields.replace(alloc, "~", "\r\n")?;
+    let body = body.replace(alloc, "~", "\n")?;
+    let length = body.len();
+    format!(in alloc; "{start} HTTP/1.1\r\n{fields}Content-Length: {length}\r\n\r\n{body}")
+}
+
+/// A reply: its status, its media type and perhaps a further field, and its body.
+fn reply(alloc: Global, status: &str, kind: &str, body: &str) -> Result<String, AllocError> {
+    let length = body.len();
+    let (media_type, field) = kind.split_once('~').unwrap_or((kind, ""));
+    let end = if field.is_empty() { "" } else { "\r\n" };
+    format!(in alloc;
+        "HTTP/1.1 {status}\r\nContent-Type: application/{media_type}\r\nContent-Length: {length}\r\n{field}{end}\r\n{body}"
+    )
+}
+
+/// The bytes that a connection brings, and those that it is to be answered with.
+#[derive(Drop)]
+struct Talk {
+    input: String,
+    output: String,
+}
+
+impl Talk {
+    fn new(alloc: Global) -> Talk {
+        Talk {
+            input: String::new(alloc),
+            output: String::new(alloc),
+        }
     }
-    Ok(words)
-}
 
-/// The status of `pipe x` over this link.
-pub(crate) fn piped(alloc: Global, link: &mut MemLink) -> Result<u8, AllocError> {
-    let words = words(alloc, &["pipe", "x"])?;
-    Ok(run(alloc, &words, link, &FixedClock(100)))
-}
+    /// Adds the request and the reply of a line.
+    fn add(&mut self, alloc: Global, line: &str) -> Result<(), AllocError> {
+        let (start, rest) = parted(line);
+        let (fields, rest) = parted(rest);
+        let (body, rest) = parted(rest);
+        let asked = request(alloc, start, fields, body)?;
+        self.input.push_str(asked.as_str())?;
+        let (status, rest) = parted(rest);
+        let (kind, rest) = parted(rest);
+        let told = reply(alloc, status, kind, rest.trim())?;
+        self.output.push_str(told.as_str())
+    }
 
-pub(crate) fn import(alloc: Global, id: &str, body: &str) -> Result<String, AllocError> {
-    let length = body.len();
-    format!(in alloc;
-        "POST /edits/{id} HTTP/1.1\r\nContent-Type: text/csv\r\nContent-Length: {length}\r\n\r\n{body}"
-    )
-}
+    /// Adds the lines of a text.
+    fn add_lines(&mut self, alloc: Global, text: &str) -> Result<(), AllocError> {
+        for line in text.lines() {
+            self.add(alloc, line)?;
+        }
+        Ok(())
+    }
 
-pub(crate) fn reply(alloc: Global, status: &str, body: &str) -> Result<String, AllocError> {
-    let length = body.len();
-    format!(in alloc;
-        "HTTP/1.1 {status}\r\nContent-Type: application/json\r\nContent-Length: {length}\r\n\r\n{body}"
-    )
-}
-
-fn map_reply(alloc: Global, body: &str) -> Result<String, AllocError> {
-    let length = body.len();
-    format!(in alloc;
-        "HTTP/1.1 200 OK\r\nContent-Type: application/alto-networkmap+json\r\nContent-Length: {length}\r\n\r\n{body}"
-    )
-}
-
-/// After a network was added, an import with this body: what it is told, and the map afterwards.
-fn second_import(alloc: Global, body: &str) -> Result<MemLink, AllocError> {
-    let first = import(alloc, "i1", "net-add,metro,,,,\n")?;
-    let second = import(alloc, "i2", body)?;
-    let input = format!(in alloc; "{first}{second}GET /maps/metro HTTP/1.1\r\n\r\n")?;
-    MemLink::new(alloc, input.as_bytes(), 10_000)
-}
-
-#[test]
-fn one_import_and_one_map(rt: HostRuntime) -> Result<(), Fail> {
-    let mut link = MemLink::new(rt.alloc(), FIRST_RUN.as_bytes(), 10_000)?;
-    assert_eq!(rt; piped(rt.alloc(), &mut link)?, 0);
-    assert!(rt; link.output() == FIRST_REPLIES.as_bytes());
-    let mut ones = Vec::new(rt.alloc());
-    ones.push(1usize)?;
-    let mut link = MemLink::new(rt.alloc(), FIRST_RUN.as_bytes(), 10_000)?.with_sizes(ones);
-    assert_eq!(rt; piped(rt.alloc(), &mut link)?, 0);
-    assert!(rt;
-        link.output() == FIRST_REPLIES.as_bytes(),
-        "read one byte at a time"
-    );
-    Ok(())
+    /// Whether the program on these words, reading by these sizes, answers so and ends with status 0.
+    fn is_answered(
+        &self,
+        alloc: Global,
+        words: &[&str],
+        sizes: Vec<usize>,
+    ) -> Result<bool, AllocError> {
+        let mut names = Vec::new(alloc);
+        for word in words {
+            names.push(Name::from_str(alloc, word)?)?;
+        }
+        let mut link = MemLink::new(alloc, self.input.as_bytes(), 60_000)?.with_sizes(sizes);
+        let status = run(alloc, &names, &mut link, &FixedClock(100));
+        Ok(status == 0 && link.output() == self.output.as_bytes())
+    }
 }
 
 #[test]
-fn a_second_import_and_the_map_after_it(rt: HostRuntime) -> Result<(), Fail> {
+fn each_request_has_its_reply(rt: HostRuntime) -> Result<(), Fail> {
     let alloc = rt.alloc();
-    for (body, status, told, map) in [
-        (
-            "pid-add,metro,east,,,\n",
-            "200 OK",
-            "{\"moment\":100,\"n\":2}",
-            METRO_EAST,
-        ),
-        (
-            "net-add,metro,,,,\n",
-            "422 Unprocessable Content",
-            "{\"row\":1,\"rule\":\"G1\",\"status\":422}",
-            METRO,
-        ),
-        (
-            "pid-add,metro,east,,,\npid-add,other,east,,,\npid-add,metro,west,,,\n",
-            "422 Unprocessable Content",
-            "{\"row\":2,\"rule\":\"G3\",\"status\":422}",
-            METRO,
-        ),
-        (
-            "pid-add,metro,east,,,\npid-add,metro,east,,,\npid-add,metro,west,,,\n",
-            "422 Unprocessable Content",
-            "{\"row\":2,\"rule\":\"G4\",\"status\":422}",
-            METRO,
-        ),
-        (
-            "pid-add,metro,east,,\n",
-            "400 Bad Request",
-            "{\"column\":0,\"row\":1,\"status\":400}",
-            METRO,
-        ),
-        (
-            "pid-add,metro,ea.st,,,\n",
-            "400 Bad Request",
-            "{\"column\":3,\"row\":1,\"status\":400}",
-            METRO,
-        ),
-        (
-            "pid-add,metro,east,,,\npid-put,metro,east,,,\n",
-            "400 Bad Request",
-            "{\"column\":1,\"row\":2,\"status\":400}",
-            METRO,
-        ),
-        (
-            "",
-            "400 Bad Request",
-            "{\"column\":0,\"row\":0,\"status\":400}",
-            METRO,
-        ),
-    ] {
-        let mut link = second_import(alloc, body)?;
-        assert_eq!(rt; piped(alloc, &mut link)?, 0, "{body}");
-        let first = reply(alloc, "200 OK", "{\"moment\":100,\"n\":1}")?;
-        let second = reply(alloc, status, told)?;
-        let map = map_reply(alloc, map)?;
-        let output = format!(in alloc; "{first}{second}{map}")?;
-        assert!(rt; link.output() == output.as_bytes(), "{body}");
+    let mut talk = Talk::new(alloc);
+    for line in TALK.lines() {
+        talk.add(alloc, line)?;
+        assert!(rt;
+            talk.is_answered(alloc, &["pipe", "x"], Vec::new(alloc))?,
+            "{line}"
+        );
     }
+    let ones = vec![in alloc; 1usize]?;
+    let words = ["pipe", "x", "--turns", "3"];
+    assert!(rt; talk.is_answered(alloc, &words, ones)?, "byte by byte");
     Ok(())
 }
 
 #[test]
-fn what_is_refused_before_the_body(rt: HostRuntime) -> Result<(), Fail> {
+fn views_and_steps_behind_thirty_one_imports(rt: HostRuntime) -> Result<(), Fail> {
     let alloc = rt.alloc();
-    for (input, output, status) in [
-        (
-            "PUT /maps/metro HTTP/1.1\r\n\r\n",
-            "HTTP/1.1 405 Method Not Allowed\r\nContent-Type: application/json\r\nContent-Length: 14\r\nAllow: GET\r\n\r\n{\"status\":405}",
-            0,
-        ),
-        (
-            "POST /edits/i1 HTTP/1.1\r\nContent-Type: text/plain\r\nContent-Length: 0\r\n\r\n",
-            "HTTP/1.1 415 Unsupported Media Type\r\nContent-Type: application/json\r\nContent-Length: 14\r\n\r\n{\"status\":415}",
-            0,
-        ),
-        (
-            "POST /edits/i%201 HTTP/1.1\r\nContent-Type: text/csv\r\nContent-Length: 0\r\n\r\n",
-            "HTTP/1.1 400 Bad Request\r\nContent-Type: application/json\r\nContent-Length: 33\r\n\r\n{\"column\":0,\"row\":0,\"status\":400}",
-            0,
-        ),
-        (
-            "GET /map/metro HTTP/1.1\r\n\r\n",
-            "HTTP/1.1 404 Not Found\r\nContent-Type: application/json\r\nContent-Length: 28\r\n\r\n{\"status\":404,\"why\":\"route\"}",
-            0,
-        ),
-        (
-            "GET /maps/metro HTTP/9.9\r\n\r\n",
-            "HTTP/1.1 400 Bad Request\r\nContent-Type: application/json\r\nContent-Length: 14\r\nConnection: close\r\n\r\n{\"status\":400}",
-            0,
-        ),
-        ("", "", 0),
-    ] {
-        let mut link = MemLink::new(alloc, input.as_bytes(), 1_000)?;
-        assert_eq!(rt; piped(alloc, &mut link)?, status, "{input}");
-        assert!(rt; link.output() == output.as_bytes(), "{input}");
+    let mut talk = Talk::new(alloc);
+    talk.add_lines(
+        alloc,
+        r#"POST /edits/i1 | Content-Type: text/csv~ | net-add,metro,,,,~ | 200 OK | json | {"moment":100,"n":1}"#,
+    )?;
+    for n in 2..=31 {
+        let line = format!(in alloc;
+            "POST /edits/i{n} | Content-Type: text/csv~ | pid-add,metro,q{n},,,~ | 200 OK | json | {{\"moment\":100,\"n\":{n}}}"
+        )?;
+        talk.add(alloc, line.as_str())?;
     }
-    let long = vec![in alloc; b'x'; 16_384]?;
-    let mut link = MemLink::new(alloc, &long, 1_000)?;
-    assert_eq!(rt; piped(alloc, &mut link)?, 0);
-    assert!(rt;
-        link.output()
-            == "HTTP/1.1 431 Request Header Fields Too Large\r\nContent-Type: application/json\r\nContent-Length: 14\r\nConnection: close\r\n\r\n{\"status\":431}".as_bytes()
-    );
+    talk.add_lines(alloc, LATER_TALK)?;
+    assert!(rt; talk.is_answered(alloc, &["pipe", "x"], Vec::new(alloc))?);
     Ok(())
 }
 
 #[test]
-fn input_that_is_cut(rt: HostRuntime) -> Result<(), Fail> {
-    let whole = FIRST_RUN.as_bytes();
-    for length in 0..whole.len() {
-        let mut link = MemLink::new(rt.alloc(), &whole[..length], 10_000)?;
-        let between = length == 0 || length == 89 || length == 117;
-        let status = if between { 0 } else { 14 };
-        assert_eq!(rt;
-            piped(rt.alloc(), &mut link)?,
-            status,
-            "cut after {length} bytes"
+fn refused_heads_close(rt: HostRuntime) -> Result<(), Fail> {
+    let alloc = rt.alloc();
+    for line in REFUSED_HEADS.lines() {
+        let (head, status) = parted(line);
+        let code = status.trim().get(..3).unwrap_or("");
+        let body = format!(in alloc; "{{\"status\":{code}}}")?;
+        let head = head.replace(alloc, "~", "\r\n")?;
+        let talk = Talk {
+            input: format!(in alloc; "{head}GET /maps/metro HTTP/1.1\r\n\r\n")?,
+            output: reply(
+                alloc,
+                status.trim(),
+                "json~Connection: close",
+                body.as_str(),
+            )?,
+        };
+        assert!(rt;
+            talk.is_answered(alloc, &["pipe", "x"], Vec::new(alloc))?,
+            "{line}"
+        );
+    }
+    Ok(())
+}
+
+/// The word for a place in the table of paths.
+fn word(place: Option<Place>) -> &'static str {
+    match place {
+        Some(Place::Maps) => "maps",
+        Some(Place::Edits) => "edits",
+        Some(Place::Tips) => "tips",
+        Some(Place::Edge) => "edge",
+        None => "none",
+    }
+}
+
+#[test]
+fn paths_lead_where_the_side_has_a_route(rt: HostRuntime) -> Result<(), Fail> {
+    let public = Routes::new(rt.alloc(), Side::Public)?;
+    let operator = Routes::new(rt.alloc(), Side::Operator)?;
+    let both = Routes::new(rt.alloc(), Side::Both)?;
+    for line in PATHS.lines() {
+        let (path, places) = parted(line);
+        let (at_public, at_operator) = parted(places);
+        let path = path.as_bytes();
+        assert_eq!(rt; word(public.place(path)), at_public, "{line}");
+        assert_eq!(rt; word(operator.place(path)), at_operator.trim(), "{line}");
+        assert!(rt;
+            both.place(path) == public.place(path).or(operator.place(path)),
+            "{line}"
         );
     }
     Ok(())
 }
 
 #[test]
-fn faults_of_the_console(rt: HostRuntime) -> Result<(), Fail> {
-    let alloc = rt.alloc();
-    let mut third = Vec::new(alloc);
-    third.push(2u64)?;
-    let mut ones = Vec::new(alloc);
-    ones.push(1usize)?;
-    let mut link = MemLink::new(alloc, FIRST_RUN.as_bytes(), 10_000)?
-        .with_sizes(ones)
-        .with_failing_reads(third);
-    assert_eq!(rt; piped(alloc, &mut link)?, 4);
-    let mut first = Vec::new(alloc);
-    first.push(0u64)?;
-    let mut link = MemLink::new(alloc, FIRST_RUN.as_bytes(), 10_000)?.with_failing_writes(first);
-    assert_eq!(rt; piped(alloc, &mut link)?, 5);
-    Ok(())
-}
-
-/// The status for these words over no input, and whether they were taken.
-fn taken(alloc: Global, texts: &[&str]) -> Result<(u8, bool), AllocError> {
-    let words = words(alloc, texts)?;
-    let mut link = MemLink::new(alloc, b"", 100)?;
-    let status = run(alloc, &words, &mut link, &FixedClock(100));
-    Ok((status, link.output().is_empty()))
-}
-
-#[test]
-fn faulty_words(rt: HostRuntime) -> Result<(), Fail> {
-    let alloc = rt.alloc();
-    let none: [&str; 0] = [];
-    let all: [&[&str]; 10] = [
-        &none,
-        &["pipe"],
-        &["pipe", "x", "y"],
-        &["pip", "x"],
-        &["pipe", "x", "--turns"],
-        &["pipe", "x", "--turn", "3"],
-        &["pipe", "x", "--turns", "00000000003"],
-        &["pipe", "x", "--turns", "+3"],
-        &["pipe", "x", "--turns", "1001"],
-        &["pipe", "x", "--turns", ""],
-    ];
-    for texts in all {
-        let words = words(alloc, texts)?;
-        let mut link = MemLink::new(alloc, b"", 100)?;
-        assert_eq!(rt; run(alloc, &words, &mut link, &FixedClock(100)), 2);
-        assert!(rt; link.output() == "words outside the grammar\n".as_bytes());
-    }
+fn a_lost_batch_is_told_as_503(rt: HostRuntime) -> Result<(), Fail> {
+    let lost = edit_reply(rt.alloc(), Err(EditFault::Keeper))?;
+    let found = reply_bytes(rt.alloc(), &lost, false)?;
+    let expected = reply(
+        rt.alloc(),
+        "503 Service Unavailable",
+        "json",
+        "{\"status\":503}",
+    )?;
+    assert!(rt; found.as_slice() == expected.as_bytes());
     Ok(())
 }
 
 #[test]
-fn words_that_are_taken(rt: HostRuntime) -> Result<(), Fail> {
-    let alloc = rt.alloc();
-    for turns in ["0", "3", "1000", "0000000003"] {
-        let (status, is_quiet) = taken(alloc, &["pipe", "x", "--turns", turns])?;
-        assert_eq!(rt; status, 0, "{turns}");
-        assert!(rt; is_quiet, "{turns}");
-    }
+fn faults_of_imports_are_printed(rt: HostRuntime) -> Result<(), Fail> {
+    let fault = EditFault::OtherBody { n: 1 };
+    let printed = format!(in rt.alloc();
+        "{fault} / {} / {}",
+        EditFault::Keeper,
+        EditFault::Memory
+    )?;
+    assert_eq!(rt;
+        printed.as_str(),
+        "batch 1 has this id and another body / the records of the batches couldn't be kept / out of memory"
+    );
     Ok(())
 }

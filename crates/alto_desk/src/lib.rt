@@ -11,8 +11,6 @@ mod desk;
 mod front;
 mod graphs;
 mod known;
-#[cfg(test)]
-mod tests;
 
 pub use alto_book::{Command, EditFault, Receipt};
 pub use desk::Desk;

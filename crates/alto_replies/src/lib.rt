@@ -12,8 +12,6 @@
 mod errors;
 mod replies;
 mod reply;
-#[cfg(test)]
-mod tests;
 mod writing;
 
 pub use errors::{alto_error, reply_or_error};

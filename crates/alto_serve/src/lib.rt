@@ -14,8 +14,6 @@ mod office;
 mod refuse;
 mod serve;
 mod solo;
-#[cfg(test)]
-mod tests;
 mod turns;
 
 pub use alto_answers::{Answer, Place, Routes, Side, answer, edge_number};

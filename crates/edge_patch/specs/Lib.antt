@@ -2,4 +2,3 @@ pub mod Documents
 pub mod Merge
 pub mod Differ
 pub mod Laws
-pub mod Examples

@@ -10,8 +10,6 @@ mod documents;
 mod keys;
 mod laws;
 mod merge;
-#[cfg(test)]
-mod tests;
 
 pub use documents::snapshot;
 pub use laws::{groups_in_order, only_touching_keys_count, steps_lead_on, untouched_is_empty};

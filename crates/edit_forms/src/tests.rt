@@ -30,627 +30,142 @@ fn written(alloc: Global, edits: &[Edit]) -> Result<String, AllocError> {
     Ok(text)
 }
 
-/// Records of CSV (RFC 4180): quotes and the ends of lines.
-const LINES: &[(&str, &[u8], &str)] = &[
-    (
-        "quotes",
-        b"\"net-add\",\"metro\",\"\",,,\n",
-        "net-add metro;",
-    ),
-    (
-        "a comma in quotes",
-        b"net-add,\"metro,\",,,,\n",
-        "BadColumn(1, 2)",
-    ),
-    (
-        "a line's end in quotes",
-        b"net-add,\"metro\n\",,,,\n",
-        "BadColumn(1, 2)",
-    ),
-    (
-        "CR LF in quotes",
-        b"net-add,\"metro\r\n\",,,,\r\n",
-        "BadColumn(1, 2)",
-    ),
-    (
-        "doubled quotes in quotes",
-        b"net-add,\"\"\"metro\"\"\",,,,\n",
-        "BadColumn(1, 2)",
-    ),
-    (
-        "doubled quotes alone",
-        b"net-add,metro,\"\",\"\",\"\",\"\"\n",
-        "net-add metro;",
-    ),
-    (
-        "a lone quote within a field",
-        b"net-add,me\"tro,,,,\n",
-        "BadColumn(1, 2)",
-    ),
-    (
-        "a lone quote at a field's end",
-        b"net-add,metro\",,,,\n",
-        "BadColumn(1, 2)",
-    ),
-    (
-        "a lone quote in the last field",
-        b"net-add,metro,,,,\"\n",
-        "BadColumn(1, 6)",
-    ),
-    (
-        "a lone quote that nothing closes",
-        b"net-add,\"metro,,,,\nnet-add,rural,,,,\n",
-        "BadRecord(1)",
-    ),
-    (
-        "bytes behind a closing quote",
-        b"net-add,\"met\"ro,,,,\n",
-        "net-add metro;",
-    ),
-    (
-        "LF",
-        b"net-add,metro,,,,\npid-add,metro,east,,,\n",
-        "net-add metro;pid-add metro east;",
-    ),
-    (
-        "CR LF",
-        b"net-add,metro,,,,\r\npid-add,metro,east,,,\r\n",
-        "net-add metro;pid-add metro east;",
-    ),
-    (
-        "lone CR",
-        b"net-add,metro,,,,\rpid-add,metro,east,,,\r",
-        "net-add metro;pid-add metro east;",
-    ),
-    (
-        "an empty line",
-        b"net-add,metro,,,,\n\npid-add,metro,east,,,\n",
-        "net-add metro;pid-add metro east;",
-    ),
-    (
-        "empty lines first and last",
-        b"\n\r\nnet-add,metro,,,,\n\r\n\n",
-        "net-add metro;",
-    ),
-    (
-        "an empty line isn't counted",
-        b"net-add,metro,,,,\n\r\nnet-put,metro,,,,\n",
-        "BadColumn(2, 1)",
-    ),
-    (
-        "a line with a blank is a record",
-        b"net-add,metro,,,,\n \n",
-        "BadRecord(2)",
-    ),
-    (
-        "a last line without an end",
-        b"net-add,metro,,,,\nnet-add,rural,,,,",
-        "net-add metro;net-add rural;",
-    ),
-    (
-        "a last line without an end in quotes",
-        b"net-add,metro,,,,\"\"",
-        "net-add metro;",
-    ),
-    ("no byte", b"", "Empty"),
-    ("ends of lines alone", b"\n\r\n\r", "Empty"),
-];
+/// Bodies of CSV (RFC 4180), each with what it is and what it reads as. In them `~` stands for LF, `^` for CR and `%` for a byte order
+/// mark.
+const RECORDS: &str = r#"quotes|"net-add","metro","",,,~|net-add metro;
+a comma in quotes|net-add,"metro,",,,,~|BadColumn(1, 2)
+a line's end in quotes|net-add,"metro~",,,,~|BadColumn(1, 2)
+CR LF in quotes|net-add,"metro^~",,,,^~|BadColumn(1, 2)
+doubled quotes in quotes|net-add,"""metro""",,,,~|BadColumn(1, 2)
+doubled quotes alone|net-add,metro,"","","",""~|net-add metro;
+a lone quote within a field|net-add,me"tro,,,,~|BadColumn(1, 2)
+a lone quote at a field's end|net-add,metro",,,,~|BadColumn(1, 2)
+a lone quote in the last field|net-add,metro,,,,"~|BadColumn(1, 6)
+a lone quote that nothing closes|net-add,"metro,,,,~net-add,rural,,,,~|BadRecord(1)
+bytes behind a closing quote|net-add,"met"ro,,,,~|net-add metro;
+LF|net-add,metro,,,,~pid-add,metro,east,,,~|net-add metro;pid-add metro east;
+CR LF|net-add,metro,,,,^~pid-add,metro,east,,,^~|net-add metro;pid-add metro east;
+lone CR|net-add,metro,,,,^pid-add,metro,east,,,^|net-add metro;pid-add metro east;
+an empty line|net-add,metro,,,,~~pid-add,metro,east,,,~|net-add metro;pid-add metro east;
+empty lines first and last|~^~net-add,metro,,,,~^~~|net-add metro;
+an empty line isn't counted|net-add,metro,,,,~^~net-put,metro,,,,~|BadColumn(2, 1)
+a line with a blank is a record|net-add,metro,,,,~ ~|BadRecord(2)
+a last line without an end|net-add,metro,,,,~net-add,rural,,,,|net-add metro;net-add rural;
+a last line without an end in quotes|net-add,metro,,,,""|net-add metro;
+no byte||Empty
+ends of lines alone|~^~^|Empty
+a header line|op,net,a,b,c,d~net-add,metro,,,,~|net-add metro;
+a header line in quotes|"op",net,a,b,c,"d"~net-add,metro,,,,~|net-add metro;
+a header line behind an empty line|~op,net,a,b,c,d~net-add,metro,,,,~|net-add metro;
+a header line alone|op,net,a,b,c,d~|Empty
+a header line without an end|op,net,a,b,c,d|Empty
+a header line isn't counted|op,net,a,b,c,d~net-put,metro,,,,~|BadColumn(1, 1)
+two header lines|op,net,a,b,c,d~op,net,a,b,c,d~net-add,metro,,,,~|BadColumn(1, 1)
+two header lines, the second in quotes|op,net,a,b,c,d~"op","net","a","b","c","d"~|BadColumn(1, 1)
+a header line that isn't first|net-add,metro,,,,~op,net,a,b,c,d~|BadColumn(2, 1)
+a header line in upper case|OP,net,a,b,c,d~|BadColumn(1, 1)
+a header line with a blank|op, net,a,b,c,d~|BadColumn(1, 1)
+a header line of five fields|op,net,a,b,c~|BadRecord(1)
+a header line of seven fields|op,net,a,b,c,d,~|BadRecord(1)
+a byte order mark|%net-add,metro,,,,~|net-add metro;
+a byte order mark before a header line|%op,net,a,b,c,d~net-add,metro,,,,~|net-add metro;
+a byte order mark before quotes|%"op",net,a,b,c,d~net-add,metro,,,,~|net-add metro;
+a byte order mark alone|%|Empty
+two byte order marks|%%net-add,metro,,,,~|BadColumn(1, 1)
+a byte order mark that isn't first|net-add,metro,,,,~%net-add,rural,,,,~|BadColumn(2, 1)
+five fields|net-add,metro,,,~|BadRecord(1)
+seven fields|net-add,metro,,,,,~|BadRecord(1)
+seven fields behind six|net-add,metro,,,,~net-add,rural,,,,,~|BadRecord(2)
+an unknown operation|net-put,metro,,,,~|BadColumn(1, 1)
+no net|net-add,,,,,~|BadColumn(1, 2)
+a net with a dot|net-add,me.tro,,,,~|BadColumn(1, 2)
+a net of 24 characters|net-add,nnnnnnnnnnnnnnnnnnnnnnnn,,,,~|net-add nnnnnnnnnnnnnnnnnnnnnnnn;
+a net of 25 characters|net-add,nnnnnnnnnnnnnnnnnnnnnnnnn,,,,~|BadColumn(1, 2)
+a PID with its marks|pid-add,metro,e:1@x-_,,,~|pid-add metro e:1@x-_;
+a PID of 64 characters|pid-add,metro,pppppppppppppppppppppppppppppppppppppppppppppppppppppppppppppppp,,,~|pid-add metro pppppppppppppppppppppppppppppppppppppppppppppppppppppppppppppppp;
+a PID of 65 characters|pid-add,metro,ppppppppppppppppppppppppppppppppppppppppppppppppppppppppppppppppp,,,~|BadColumn(1, 3)
+a value in the last empty column|pid-add,metro,east,,,x~|BadColumn(1, 6)
+two values in empty columns|pid-add,metro,east,,x,x~|BadColumn(1, 5)
+two faults in a row|pid-add,me.tro,ea.st,,,~|BadColumn(1, 2)
+the second row|net-add,metro,,,,~pid-add,metro,,,,~net-add~|BadColumn(2, 3)"#;
 
-/// Header lines and byte order marks.
-const FIRST_LINES: &[(&str, &[u8], &str)] = &[
-    (
-        "a header line",
-        b"op,net,a,b,c,d\nnet-add,metro,,,,\n",
-        "net-add metro;",
-    ),
-    (
-        "a header line in quotes",
-        b"\"op\",net,a,b,c,\"d\"\nnet-add,metro,,,,\n",
-        "net-add metro;",
-    ),
-    (
-        "a header line behind an empty line",
-        b"\nop,net,a,b,c,d\nnet-add,metro,,,,\n",
-        "net-add metro;",
-    ),
-    ("a header line alone", b"op,net,a,b,c,d\n", "Empty"),
-    ("a header line without an end", b"op,net,a,b,c,d", "Empty"),
-    (
-        "a header line isn't counted",
-        b"op,net,a,b,c,d\nnet-put,metro,,,,\n",
-        "BadColumn(1, 1)",
-    ),
-    (
-        "two header lines",
-        b"op,net,a,b,c,d\nop,net,a,b,c,d\nnet-add,metro,,,,\n",
-        "BadColumn(1, 1)",
-    ),
-    (
-        "two header lines, the second in quotes",
-        b"op,net,a,b,c,d\n\"op\",\"net\",\"a\",\"b\",\"c\",\"d\"\n",
-        "BadColumn(1, 1)",
-    ),
-    (
-        "a header line that isn't first",
-        b"net-add,metro,,,,\nop,net,a,b,c,d\n",
-        "BadColumn(2, 1)",
-    ),
-    (
-        "a header line in upper case",
-        b"OP,net,a,b,c,d\n",
-        "BadColumn(1, 1)",
-    ),
-    (
-        "a header line with a blank",
-        b"op, net,a,b,c,d\n",
-        "BadColumn(1, 1)",
-    ),
-    (
-        "a header line of five fields",
-        b"op,net,a,b,c\n",
-        "BadRecord(1)",
-    ),
-    (
-        "a header line of seven fields",
-        b"op,net,a,b,c,d,\n",
-        "BadRecord(1)",
-    ),
-    (
-        "a byte order mark",
-        b"\xef\xbb\xbfnet-add,metro,,,,\n",
-        "net-add metro;",
-    ),
-    (
-        "a byte order mark before a header line",
-        b"\xef\xbb\xbfop,net,a,b,c,d\nnet-add,metro,,,,\n",
-        "net-add metro;",
-    ),
-    (
-        "a byte order mark before quotes",
-        b"\xef\xbb\xbf\"op\",net,a,b,c,d\nnet-add,metro,,,,\n",
-        "net-add metro;",
-    ),
-    ("a byte order mark alone", b"\xef\xbb\xbf", "Empty"),
-    (
-        "two byte order marks",
-        b"\xef\xbb\xbf\xef\xbb\xbfnet-add,metro,,,,\n",
-        "BadColumn(1, 1)",
-    ),
-    (
-        "a byte order mark that isn't first",
-        b"net-add,metro,,,,\n\xef\xbb\xbfnet-add,rural,,,,\n",
-        "BadColumn(2, 1)",
-    ),
-    (
-        "a part of a byte order mark",
-        b"\xef\xbbnet-add,metro,,,,\n",
-        "BadColumn(1, 1)",
-    ),
-];
+/// Bodies of JSON, in the same form.
+const OBJECTS: &str = r#"two columns|{"edits":[["net-add","metro"]]}|net-add metro;
+three columns|{"edits":[["pid-add","metro","east"]]}|pid-add metro east;
+four columns|{"edits":[["pid-add","metro","east",""]]}|pid-add metro east;
+five columns|{"edits":[["net-add","metro","","",""]]}|net-add metro;
+six columns|{"edits":[["pid-add","metro","east","","",""]]}|pid-add metro east;
+a PID of 64 characters|{"edits":[["pid-add","metro","pppppppppppppppppppppppppppppppppppppppppppppppppppppppppppppppp"]]}|pid-add metro pppppppppppppppppppppppppppppppppppppppppppppppppppppppppppppppp;
+two items|{"edits":[["net-add","metro"],["pid-add","metro","e:1@x"]]}|net-add metro;pid-add metro e:1@x;
+blanks and escapes| {~"edits" : [ [ "net\u002dadd" , "m\u0065tro" ] ] }^~|net-add metro;
+other members|{"a":{"b":[1,null,true]},"edits":[["net-add","metro"]],"z":"x"}|net-add metro;
+a repeated member|{"edits":[["net-put"]],"edits":[["net-add","metro"]]}|net-add metro;
+a repeated member, empty at last|{"edits":[["net-add","metro"]],"edits":[]}|Empty
+a repeated member, no list at last|{"edits":[["net-add","metro"]],"edits":null}|Syntax
+no item|{"edits":[]}|Empty
+no item, with other members|{"op":"net-add","edits":[]}|Empty
+no byte||Syntax
+a CSV body|net-add,metro,,,,~|Syntax
+an open list|{"edits":[["net-add","metro"]|Syntax
+bytes behind the object|{"edits":[["net-add","metro"]]}]|Syntax
+two objects|{"edits":[["net-add","metro"]]}{"edits":[]}|Syntax
+half of a pair of escapes|{"edits":[["net-add","m\ud800"]]}|Syntax
+a comma behind the last item|{"edits":[["net-add","metro"],]}|Syntax
+blanks alone| ^~|Syntax
+a byte order mark|%{"edits":[["net-add","metro"]]}|Syntax
+a float|{"edits":[["net-add","metro"]],"f":1.5}|Syntax
+a float in an item|{"edits":[["net-add",1.5]]}|Syntax
+a number below zero|{"edits":[["net-add","metro"]],"f":-1}|Syntax
+a number of 2^64|{"edits":[["net-add","metro"]],"f":18446744073709551616}|Syntax
+no member|{}|Syntax
+no member of that name|{"Edits":[["net-add","metro"]]}|Syntax
+an object for the list|{"edits":{"edits":[["net-add","metro"]]}}|Syntax
+a text for the list|{"edits":"net-add,metro,,,,"}|Syntax
+null for the list|{"edits":null}|Syntax
+a list for the object|[["net-add","metro"]]|Syntax
+a text for the object|"edits"|Syntax
+no column|{"edits":[[]]}|BadRecord(1)
+one column|{"edits":[["net-add"]]}|BadRecord(1)
+seven columns|{"edits":[["net-add","metro","","","","",""]]}|BadRecord(1)
+seven columns, the last with a value|{"edits":[["net-add","metro","","","","","x"]]}|BadRecord(1)
+an object for an item|{"edits":[{"op":"net-add","net":"metro"}]}|BadRecord(1)
+a text for an item|{"edits":["net-add,metro,,,,"]}|BadRecord(1)
+null for an item|{"edits":[null]}|BadRecord(1)
+a number for a text|{"edits":[["net-add",5]]}|BadRecord(1)
+null for a text|{"edits":[["net-add","metro",null]]}|BadRecord(1)
+a truth for the sixth text|{"edits":[["net-add","metro","","","",false]]}|BadRecord(1)
+a list for a text|{"edits":[["net-add",["metro"]]]}|BadRecord(1)
+a number behind a bad text|{"edits":[["net-put",5]]}|BadRecord(1)
+the second item|{"edits":[["net-add","metro"],["net-add"],[]]}|BadRecord(2)
+a header item|{"edits":[["op","net","a","b","c","d"],["net-add","metro"]]}|BadColumn(1, 1)
+an unknown operation|{"edits":[["net-put","metro"]]}|BadColumn(1, 1)
+a net behind a blank|{"edits":[["net-add"," metro"]]}|BadColumn(1, 2)
+a PID that is left out|{"edits":[["net-add","metro"],["pid-add","metro"]]}|BadColumn(2, 3)
+a PID of 65 characters|{"edits":[["pid-add","metro","ppppppppppppppppppppppppppppppppppppppppppppppppppppppppppppppppp"]]}|BadColumn(1, 3)
+a value in an empty column|{"edits":[["net-add","metro","","x"]]}|BadColumn(1, 4)
+a value in the last column|{"edits":[["pid-add","metro","east","","","x"]]}|BadColumn(1, 6)"#;
 
-/// Numbers of fields, operations and networks.
-const FIELDS: &[(&str, &[u8], &str)] = &[
-    ("five fields", b"net-add,metro,,,\n", "BadRecord(1)"),
-    ("seven fields", b"net-add,metro,,,,,\n", "BadRecord(1)"),
-    ("one field", b"net-add\n", "BadRecord(1)"),
-    (
-        "five fields behind six",
-        b"net-add,metro,,,,\nnet-add,rural,,,\n",
-        "BadRecord(2)",
-    ),
-    (
-        "seven fields behind six",
-        b"net-add,metro,,,,\nnet-add,rural,,,,,\n",
-        "BadRecord(2)",
-    ),
-    (
-        "five fields that aren't UTF-8",
-        b"net-add,\xff,,,\n",
-        "BadRecord(1)",
-    ),
-    (
-        "an unknown operation",
-        b"net-put,metro,,,,\n",
-        "BadColumn(1, 1)",
-    ),
-    ("no operation", b",metro,,,,\n", "BadColumn(1, 1)"),
-    (
-        "an operation in upper case",
-        b"NET-ADD,metro,,,,\n",
-        "BadColumn(1, 1)",
-    ),
-    (
-        "an operation behind a blank",
-        b" net-add,metro,,,,\n",
-        "BadColumn(1, 1)",
-    ),
-    (
-        "an operation that isn't UTF-8",
-        b"net-add\xff,metro,,,,\n",
-        "BadColumn(1, 1)",
-    ),
-    ("no net", b"net-add,,,,,\n", "BadColumn(1, 2)"),
-    (
-        "a net behind a blank",
-        b"net-add, metro,,,,\n",
-        "BadColumn(1, 2)",
-    ),
-    (
-        "a net before a blank",
-        b"net-add,metro ,,,,\n",
-        "BadColumn(1, 2)",
-    ),
-    (
-        "a net with a dot",
-        b"net-add,me.tro,,,,\n",
-        "BadColumn(1, 2)",
-    ),
-    (
-        "a net with a mark of PIDs",
-        b"net-add,me:tro,,,,\n",
-        "BadColumn(1, 2)",
-    ),
-    (
-        "a net that isn't UTF-8",
-        b"net-add,m\xff,,,,\n",
-        "BadColumn(1, 2)",
-    ),
-    (
-        "a net of 24 characters",
-        b"net-add,nnnnnnnnnnnnnnnnnnnnnnnn,,,,\n",
-        "net-add nnnnnnnnnnnnnnnnnnnnnnnn;",
-    ),
-    (
-        "a net of 25 characters",
-        b"net-add,nnnnnnnnnnnnnnnnnnnnnnnnn,,,,\n",
-        "BadColumn(1, 2)",
-    ),
-];
-
-/// PIDs, and columns that are to be empty.
-const PIDS: &[(&str, &[u8], &str)] = &[
-    (
-        "a PID with its marks",
-        b"pid-add,metro,e:1@x-_,,,\n",
-        "pid-add metro e:1@x-_;",
-    ),
-    ("no PID", b"pid-add,metro,,,,\n", "BadColumn(1, 3)"),
-    (
-        "a PID with a dot",
-        b"pid-add,metro,ea.st,,,\n",
-        "BadColumn(1, 3)",
-    ),
-    (
-        "a PID that isn't UTF-8",
-        b"pid-add,metro,\xc3,,,\n",
-        "BadColumn(1, 3)",
-    ),
-    (
-        "a PID of 64 characters",
-        b"pid-add,metro,pppppppppppppppppppppppppppppppppppppppppppppppppppppppppppppppp,,,\n",
-        "pid-add metro pppppppppppppppppppppppppppppppppppppppppppppppppppppppppppppppp;",
-    ),
-    (
-        "a PID of 65 characters",
-        b"pid-add,metro,ppppppppppppppppppppppppppppppppppppppppppppppppppppppppppppppppp,,,\n",
-        "BadColumn(1, 3)",
-    ),
-    (
-        "a value in the first empty column",
-        b"net-add,metro,x,,,\n",
-        "BadColumn(1, 3)",
-    ),
-    (
-        "a blank in an empty column",
-        b"net-add,metro,, ,,\n",
-        "BadColumn(1, 4)",
-    ),
-    (
-        "a quote in an empty column",
-        b"net-add,metro,,,\"\"\"\",\n",
-        "BadColumn(1, 5)",
-    ),
-    (
-        "bytes that aren't UTF-8 in an empty column",
-        b"pid-add,metro,east,,\xff,\n",
-        "BadColumn(1, 5)",
-    ),
-    (
-        "a value in the last empty column",
-        b"pid-add,metro,east,,,x\n",
-        "BadColumn(1, 6)",
-    ),
-    (
-        "two values in empty columns",
-        b"pid-add,metro,east,,x,x\n",
-        "BadColumn(1, 5)",
-    ),
-    (
-        "two faults in a row",
-        b"pid-add,me.tro,ea.st,,,\n",
-        "BadColumn(1, 2)",
-    ),
-    (
-        "faults in the first and the last column",
-        b"pid,metro,east,,,x\n",
-        "BadColumn(1, 1)",
-    ),
-    (
-        "two rows with faults",
-        b"net-add,metro,x,,,\nnet-add\n",
-        "BadColumn(1, 3)",
-    ),
-    (
-        "the second row",
-        b"net-add,metro,,,,\npid-add,metro,,,,\nnet-add\n",
-        "BadColumn(2, 3)",
-    ),
-];
-
-#[test]
-fn a_csv_body_reads_as_edits_or_its_first_fault(rt: HostRuntime) -> Result<(), Fail> {
-    for table in [LINES, FIRST_LINES, FIELDS, PIDS] {
-        for (what, body, expected) in table {
-            let read = outcome(rt.alloc(), read_csv(rt.alloc(), body))?;
-            assert_eq!(rt; read.as_str(), *expected, "{what}");
-        }
-    }
-    Ok(())
+/// The bytes of a body that is written with marks.
+fn body_of(alloc: Global, marked: &str) -> Result<String, AllocError> {
+    let lines = marked.replace(alloc, "~", "\n")?;
+    let lines = lines.as_str().replace(alloc, "^", "\r")?;
+    lines.as_str().replace(alloc, "%", "\u{feff}")
 }
 
-/// Objects with a list of edits.
-const OBJECTS: &[(&str, &[u8], &str)] = &[
-    (
-        "two columns",
-        b"{\"edits\":[[\"net-add\",\"metro\"]]}",
-        "net-add metro;",
-    ),
-    (
-        "three columns",
-        b"{\"edits\":[[\"pid-add\",\"metro\",\"east\"]]}",
-        "pid-add metro east;",
-    ),
-    (
-        "four columns",
-        b"{\"edits\":[[\"pid-add\",\"metro\",\"east\",\"\"]]}",
-        "pid-add metro east;",
-    ),
-    (
-        "five columns",
-        b"{\"edits\":[[\"net-add\",\"metro\",\"\",\"\",\"\"]]}",
-        "net-add metro;",
-    ),
-    (
-        "six columns",
-        b"{\"edits\":[[\"pid-add\",\"metro\",\"east\",\"\",\"\",\"\"]]}",
-        "pid-add metro east;",
-    ),
-    (
-        "a PID of 64 characters",
-        b"{\"edits\":[[\"pid-add\",\"metro\",\"pppppppppppppppppppppppppppppppppppppppppppppppppppppppppppppppp\"]]}",
-        "pid-add metro pppppppppppppppppppppppppppppppppppppppppppppppppppppppppppppppp;",
-    ),
-    (
-        "two items",
-        b"{\"edits\":[[\"net-add\",\"metro\"],[\"pid-add\",\"metro\",\"e:1@x\"]]}",
-        "net-add metro;pid-add metro e:1@x;",
-    ),
-    (
-        "blanks and escapes",
-        b" {\n\"edits\" : [ [ \"net\\u002dadd\" , \"m\\u0065tro\" ] ] }\r\n",
-        "net-add metro;",
-    ),
-    (
-        "other members",
-        b"{\"a\":{\"b\":[1,null,true]},\"edits\":[[\"net-add\",\"metro\"]],\"z\":\"x\"}",
-        "net-add metro;",
-    ),
-    (
-        "a repeated member",
-        b"{\"edits\":[[\"net-put\"]],\"edits\":[[\"net-add\",\"metro\"]]}",
-        "net-add metro;",
-    ),
-    (
-        "a repeated member, empty at last",
-        b"{\"edits\":[[\"net-add\",\"metro\"]],\"edits\":[]}",
-        "Empty",
-    ),
-    (
-        "a repeated member, no list at last",
-        b"{\"edits\":[[\"net-add\",\"metro\"]],\"edits\":null}",
-        "Syntax",
-    ),
-    ("no item", b"{\"edits\":[]}", "Empty"),
-    (
-        "no item, with other members",
-        b"{\"op\":\"net-add\",\"edits\":[]}",
-        "Empty",
-    ),
-];
-
-/// Bodies that are no object with a list of edits.
-const OTHER_BODIES: &[(&str, &[u8], &str)] = &[
-    ("no byte", b"", "Syntax"),
-    ("a CSV body", b"net-add,metro,,,,\n", "Syntax"),
-    (
-        "an open list",
-        b"{\"edits\":[[\"net-add\",\"metro\"]",
-        "Syntax",
-    ),
-    (
-        "bytes behind the object",
-        b"{\"edits\":[[\"net-add\",\"metro\"]]}]",
-        "Syntax",
-    ),
-    (
-        "two objects",
-        b"{\"edits\":[[\"net-add\",\"metro\"]]}{\"edits\":[]}",
-        "Syntax",
-    ),
-    (
-        "bytes that aren't UTF-8",
-        b"{\"edits\":[[\"net-add\",\"m\xff\"]]}",
-        "Syntax",
-    ),
-    (
-        "half of a pair of escapes",
-        b"{\"edits\":[[\"net-add\",\"m\\ud800\"]]}",
-        "Syntax",
-    ),
-    (
-        "a comma behind the last item",
-        b"{\"edits\":[[\"net-add\",\"metro\"],]}",
-        "Syntax",
-    ),
-    ("blanks alone", b" \r\n", "Syntax"),
-    (
-        "a byte order mark",
-        b"\xef\xbb\xbf{\"edits\":[[\"net-add\",\"metro\"]]}",
-        "Syntax",
-    ),
-    (
-        "a float",
-        b"{\"edits\":[[\"net-add\",\"metro\"]],\"f\":1.5}",
-        "Syntax",
-    ),
-    (
-        "a float in an item",
-        b"{\"edits\":[[\"net-add\",1.5]]}",
-        "Syntax",
-    ),
-    (
-        "a number below zero",
-        b"{\"edits\":[[\"net-add\",\"metro\"]],\"f\":-1}",
-        "Syntax",
-    ),
-    (
-        "a number of 2^64",
-        b"{\"edits\":[[\"net-add\",\"metro\"]],\"f\":18446744073709551616}",
-        "Syntax",
-    ),
-    ("no member", b"{}", "Syntax"),
-    (
-        "no member of that name",
-        b"{\"Edits\":[[\"net-add\",\"metro\"]]}",
-        "Syntax",
-    ),
-    (
-        "an object for the list",
-        b"{\"edits\":{\"edits\":[[\"net-add\",\"metro\"]]}}",
-        "Syntax",
-    ),
-    (
-        "a text for the list",
-        b"{\"edits\":\"net-add,metro,,,,\"}",
-        "Syntax",
-    ),
-    ("null for the list", b"{\"edits\":null}", "Syntax"),
-    (
-        "a list for the object",
-        b"[[\"net-add\",\"metro\"]]",
-        "Syntax",
-    ),
-    ("a text for the object", b"\"edits\"", "Syntax"),
-];
-
-/// Items with a fault.
-const ITEMS: &[(&str, &[u8], &str)] = &[
-    ("no column", b"{\"edits\":[[]]}", "BadRecord(1)"),
-    ("one column", b"{\"edits\":[[\"net-add\"]]}", "BadRecord(1)"),
-    (
-        "seven columns",
-        b"{\"edits\":[[\"net-add\",\"metro\",\"\",\"\",\"\",\"\",\"\"]]}",
-        "BadRecord(1)",
-    ),
-    (
-        "seven columns, the last with a value",
-        b"{\"edits\":[[\"net-add\",\"metro\",\"\",\"\",\"\",\"\",\"x\"]]}",
-        "BadRecord(1)",
-    ),
-    (
-        "an object for an item",
-        b"{\"edits\":[{\"op\":\"net-add\",\"net\":\"metro\"}]}",
-        "BadRecord(1)",
-    ),
-    (
-        "a text for an item",
-        b"{\"edits\":[\"net-add,metro,,,,\"]}",
-        "BadRecord(1)",
-    ),
-    ("null for an item", b"{\"edits\":[null]}", "BadRecord(1)"),
-    (
-        "a number for a text",
-        b"{\"edits\":[[\"net-add\",5]]}",
-        "BadRecord(1)",
-    ),
-    (
-        "null for a text",
-        b"{\"edits\":[[\"net-add\",\"metro\",null]]}",
-        "BadRecord(1)",
-    ),
-    (
-        "a truth for the sixth text",
-        b"{\"edits\":[[\"net-add\",\"metro\",\"\",\"\",\"\",false]]}",
-        "BadRecord(1)",
-    ),
-    (
-        "a list for a text",
-        b"{\"edits\":[[\"net-add\",[\"metro\"]]]}",
-        "BadRecord(1)",
-    ),
-    (
-        "a number behind a bad text",
-        b"{\"edits\":[[\"net-put\",5]]}",
-        "BadRecord(1)",
-    ),
-    (
-        "the second item",
-        b"{\"edits\":[[\"net-add\",\"metro\"],[\"net-add\"],[]]}",
-        "BadRecord(2)",
-    ),
-    (
-        "a header item",
-        b"{\"edits\":[[\"op\",\"net\",\"a\",\"b\",\"c\",\"d\"],[\"net-add\",\"metro\"]]}",
-        "BadColumn(1, 1)",
-    ),
-    (
-        "an unknown operation",
-        b"{\"edits\":[[\"net-put\",\"metro\"]]}",
-        "BadColumn(1, 1)",
-    ),
-    (
-        "a net behind a blank",
-        b"{\"edits\":[[\"net-add\",\" metro\"]]}",
-        "BadColumn(1, 2)",
-    ),
-    (
-        "a PID that is left out",
-        b"{\"edits\":[[\"net-add\",\"metro\"],[\"pid-add\",\"metro\"]]}",
-        "BadColumn(2, 3)",
-    ),
-    (
-        "a PID of 65 characters",
-        b"{\"edits\":[[\"pid-add\",\"metro\",\"ppppppppppppppppppppppppppppppppppppppppppppppppppppppppppppppppp\"]]}",
-        "BadColumn(1, 3)",
-    ),
-    (
-        "a value in an empty column",
-        b"{\"edits\":[[\"net-add\",\"metro\",\"\",\"x\"]]}",
-        "BadColumn(1, 4)",
-    ),
-    (
-        "a value in the last column",
-        b"{\"edits\":[[\"pid-add\",\"metro\",\"east\",\"\",\"\",\"x\"]]}",
-        "BadColumn(1, 6)",
-    ),
-];
-
 #[test]
-fn a_json_body_reads_as_edits_or_its_first_fault(rt: HostRuntime) -> Result<(), Fail> {
-    for table in [OBJECTS, OTHER_BODIES, ITEMS] {
-        for (what, body, expected) in table {
-            let read = outcome(rt.alloc(), read_json(rt.alloc(), body))?;
-            assert_eq!(rt; read.as_str(), *expected, "{what}");
+fn bodies_read_as_edits_or_their_first_fault(rt: HostRuntime) -> Result<(), Fail> {
+    let alloc = rt.alloc();
+    for (table, is_csv) in [(RECORDS, true), (OBJECTS, false)] {
+        for line in table.lines() {
+            let (_what, rest) = line.split_once('|').unwrap_or((line, ""));
+            let (marked, expected) = rest.split_once('|').unwrap_or((rest, ""));
+            let body = body_of(alloc, marked)?;
+            let read = if is_csv {
+                read_csv(alloc, body.as_bytes())
+            } else {
+                read_json(alloc, body.as_bytes())
+            };
+            assert_eq!(rt; outcome(alloc, read)?.as_str(), expected, "{line}");
         }
     }
     Ok(())

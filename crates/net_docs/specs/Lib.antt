@@ -1,3 +1,2 @@
 pub mod NetworkMap
 pub mod Laws
-pub mod Examples

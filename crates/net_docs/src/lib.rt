@@ -8,8 +8,6 @@
 mod document;
 mod laws;
 mod pids;
-#[cfg(test)]
-mod tests;
 mod version;
 
 pub use document::{net_doc, version_tag};
