@@ -1,4 +1,4 @@
--- What a name is: its alphabet, its length, and the first fault of bytes that are none (RFC 7285, section 10.1, for PIDs).
+-- What a name is: its alphabet, its length, and the first fault of bytes that are none (RFC 7285, sections 10.1 and 10.6).
 use Rattle.std.specs.Prelude.{◌≡◌, ℕ, Bool, not, ◌==◌, ◌||◌, ◌&&◌, nat_le, nat_lt, List, [], ◌∷◌, length, Result, Ok, Err, Option, Some, None, if◌then◌else◌, codes}
 use Rattle.std.specs.List.{list_any, position_from}
 use Rattle.std.specs.Char.{is_ascii_alphanumeric}
@@ -16,6 +16,10 @@ is_net_byte byte = is_letter_or_digit byte || list_any (λ mark. byte == mark) (
 -- a byte of a PID's name: also `:` and `@`
 abbrev pub is_pid_byte : ℕ → Bool
 is_pid_byte byte = is_letter_or_digit byte || list_any (λ mark. byte == mark) (codes "-:@_")
+
+-- a byte of a metric's or a property's name: also `:`, but no `@`
+abbrev pub is_metric_byte : ℕ → Bool
+is_metric_byte byte = is_letter_or_digit byte || list_any (λ mark. byte == mark) (codes "-:_")
 
 -- a byte of an import's id: visible, from U+0021 to U+007E
 abbrev pub is_import_byte : ℕ → Bool
@@ -45,6 +49,18 @@ IsNetName name = named is_net_byte 24 name ≡ Ok name
 -- the bytes are a PID's name
 abbrev pub IsPidName : List ℕ → Type 0
 IsPidName name = named is_pid_byte 64 name ≡ Ok name
+
+-- the bytes are a metric's name
+abbrev pub IsMetric : List ℕ → Type 0
+IsMetric name = named is_metric_byte 32 name ≡ Ok name
+
+-- the bytes are a property's name
+abbrev pub IsPropName : List ℕ → Type 0
+IsPropName name = named is_metric_byte 32 name ≡ Ok name
+
+-- the bytes are the name of an abstract network element
+abbrev pub IsAneName : List ℕ → Type 0
+IsAneName name = named is_pid_byte 32 name ≡ Ok name
 
 -- the bytes are an import's id
 abbrev pub IsImportId : List ℕ → Type 0

@@ -1,7 +1,7 @@
 ghost use Rattle.std.specs.Prelude.{◌≡◌, ◌<◌, ◌≤◌, ℕ, Bool, true, refl};
 ghost use Rattle.std.proofs.Common.{rules, arith};
 ghost use Rattle.std.proofs.lemmas.Bool.Decides.{nat_tests};
-ghost use Rattle.alto_names.specs.Name.{is_letter_or_digit, is_net_byte, is_pid_byte, is_import_byte};
+ghost use Rattle.alto_names.specs.Name.{is_letter_or_digit, is_net_byte, is_pid_byte, is_metric_byte, is_import_byte};
 
 /// A kind of name: its alphabet and its greatest length. Each is a type of its own, made for its parameters alone.
 pub trait Kind {
@@ -81,6 +81,87 @@ impl Kind for PidKind {
 
     fn admits(byte: u8) -> bool {
         byte.is_ascii_alphanumeric() || byte == b'-' || byte == b':' || byte == b'@' || byte == b'_'
+    }
+}
+
+/// Names of cost metrics.
+pub struct MetricKind;
+
+impl Kind for MetricKind {
+    ghost alphabet = { is_metric_byte };
+
+    ghost LONGEST = { 32 };
+
+    ghost LEAST = { 45 };
+
+    const LONGEST: usize = 32;
+
+    const LEAST: u8 = b'-';
+
+    ghost has_room = { Prim.search rules };
+
+    ghost has_least = { refl };
+
+    ghost none_below = { λ byte h. Prim.grind (arith, nat_tests) };
+
+    ghost ascii = { λ byte h. Prim.grind (arith, nat_tests) };
+
+    fn admits(byte: u8) -> bool {
+        byte.is_ascii_alphanumeric() || byte == b'-' || byte == b':' || byte == b'_'
+    }
+}
+
+/// Names of properties.
+pub struct PropKind;
+
+impl Kind for PropKind {
+    ghost alphabet = { is_metric_byte };
+
+    ghost LONGEST = { 32 };
+
+    ghost LEAST = { 45 };
+
+    const LONGEST: usize = 32;
+
+    const LEAST: u8 = b'-';
+
+    ghost has_room = { Prim.search rules };
+
+    ghost has_least = { refl };
+
+    ghost none_below = { λ byte h. Prim.grind (arith, nat_tests) };
+
+    ghost ascii = { λ byte h. Prim.grind (arith, nat_tests) };
+
+    fn admits(byte: u8) -> bool {
+        MetricKind::admits(byte)
+    }
+}
+
+/// Names of abstract network elements.
+pub struct AneKind;
+
+impl Kind for AneKind {
+    ghost alphabet = { is_pid_byte };
+
+    ghost LONGEST = { 32 };
+
+    ghost LEAST = { 45 };
+
+    const LONGEST: usize = 32;
+
+    const LEAST: u8 = b'-';
+
+    ghost has_room = { Prim.search rules };
+
+    ghost has_least = { refl };
+
+    ghost none_below = { λ byte h. Prim.grind (arith, nat_tests) };
+
+    ghost ascii = { λ byte h. Prim.grind (arith, nat_tests) };
+
+    fn admits(byte: u8) -> bool {
+        PidKind::admits(byte)
     }
 }
 

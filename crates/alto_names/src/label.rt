@@ -10,6 +10,7 @@ use std::alloc::{AllocError, Global};
 use std::cmp::Ordering;
 use std::error::Error;
 use std::marker::{Model, PhantomData};
+use std::sync::ArcStr;
 use std::{fmt, str};
 
 /// Why bytes are no name, in the order of the tests.
@@ -58,21 +59,26 @@ impl fmt::Display for NameFault {
 impl Error for NameFault {}
 
 /// A name of one kind. A contract sees its bytes.
+///
+/// A name is a pointer of 8 bytes. Its clones share what it points to: a block of 32 bytes, which counts the owners, and
+/// the text, as long as it is. Reading a name takes this memory anew, also for a text that was read before. A clone takes
+/// none and constant time, and is refused only at 2^63 owners.
 #[derive(Drop)]
 pub struct Label<K: Kind> {
-    text: String,
+    text: ArcStr,
     kind: PhantomData<K>,
 }
 
 impl<K: Kind> Model for Label<K> {
-    ghost use Rattle.std.specs.Prelude.{◌≡◌, List, ℕ, Ok, string_bytes};
+    ghost use Rattle.std.specs.Prelude.{◌≡◌, List, ℕ, Ok};
+    ghost use Rattle.std.specs.Arc.{arc_str_bytes};
     ghost use Rattle.alto_names.specs.Name.{named};
 
     ghost Value = { List ℕ };
 
-    ghost view = { λ label. string_bytes label.text };
+    ghost view = { λ label. arc_str_bytes label.text };
 
-    ghost invariant = { λ label. named K.alphabet K.LONGEST (string_bytes label.text) ≡ Ok (string_bytes label.text) };
+    ghost invariant = { λ label. named K.alphabet K.LONGEST (arc_str_bytes label.text) ≡ Ok (arc_str_bytes label.text) };
 }
 
 impl<K: Kind> Label<K> {
@@ -95,7 +101,7 @@ impl<K: Kind> Label<K> {
             unreachable!();
         };
         Ok(Label {
-            text: String::from_str(alloc, text)?,
+            text: ArcStr::from_str(alloc, text)?,
             kind: PhantomData,
         })
     }
@@ -109,7 +115,7 @@ impl<K: Kind> Label<K> {
         let mut text = String::new(alloc);
         text.push(char::from(K::LEAST))?;
         Ok(Label {
-            text,
+            text: ArcStr::from_string(text)?,
             kind: PhantomData,
         })
     }
@@ -119,7 +125,7 @@ impl<K: Kind> Label<K> {
         ensures bytes { result.now ≡ self.now }
         ensures read_again { named K.alphabet K.LONGEST self.now ≡ Ok self.now }
     {
-        self.text.as_bytes()
+        self.text.as_str().as_bytes()
     }
 
     /// The same as text.
@@ -127,6 +133,20 @@ impl<K: Kind> Label<K> {
         ensures { result.now ≡ self.now }
     {
         self.text.as_str()
+    }
+
+    /// Whether the name has these bytes, which need not be a name.
+    pub fn matches(&self, text: &[u8]) -> bool
+        ensures { result ≡ pointwise nat_eq self.now text.now }
+    {
+        self.as_bytes() == text
+    }
+
+    /// Where the name stands against these bytes, in the order of names.
+    pub fn cmp_bytes(&self, text: &[u8]) -> Ordering
+        ensures { result ≡ slice_cmp nat_cmp self.now text.now }
+    {
+        self.as_bytes().cmp(text)
     }
 }
 
