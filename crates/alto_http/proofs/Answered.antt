@@ -1,8 +1,9 @@
 -- What a call answers of the bytes ahead holds of all the bytes.
-use Rattle.std.proofs.Common.{◌≡◌, ℕ, ◌+◌, ◌<◌, List, [], ◌++◌, length, take, drop, Option, Some, None, IfSome, refl, ap, sym, subst, ◌∙◌, append_assoc, inl, inr}
+use Rattle.std.proofs.Common.{◌≡◌, ℕ, ◌+◌, ◌<◌, List, [], ◌++◌, length, take, drop, Option, Some, None, IfSome, refl, ap, sym, subst, ◌∙◌, append_assoc, append-nil, ◌≢◌, inl, inr}
 use Rattle.alto_http.specs.declared.fault.HeadFault.{HeadFault}
-use Rattle.alto_http.specs.declared.fault.HeadFault.TheVariants.{TooLarge}
-use Rattle.alto_http.specs.Link.{followed_by}
+use Rattle.alto_http.specs.declared.fault.HeadFault.TheVariants.{TooLarge, Cut, ReadFault}
+use Rattle.alto_http.specs.Link.{followed_by, IsAtEnd}
+use Rattle.alto_http.specs.Receive.{HeadFails}
 use Rattle.alto_http.specs.Request.{RequestData, Passes, FailsBy}
 use Rattle.alto_http.specs.Intake.{GivesBehind, GivesOnly}
 use Rattle.alto_http.specs.Splits.{IsHeadAt, IsTooLong, IsRefused, IsUnfinished, Begins, EndsInBody, EndsInside}
@@ -13,6 +14,21 @@ pub refused_long : (whole : Option (List ℕ)) (ahead : List ℕ) (left : Option
     → whole ≡ followed_by ahead left → IsTooLong ahead → fault ≡ TooLarge → IfSome whole (λ bytes. IsRefused bytes fault)
 refused_long whole ahead None fault is long e = rw is tt
 refused_long whole ahead (Some left) fault is long e = rw is (inl (too_long_append ahead left long, e))
+
+-- where a head failed by a check of its length, the bytes are refused
+pub head_refused : (fault : HeadFault) (whole : Option (List ℕ)) (ahead : List ℕ) (left : Option (List ℕ))
+    → whole ≡ followed_by ahead left → HeadFails fault ahead left → fault ≢ Cut → fault ≢ ReadFault
+    → IfSome whole (λ bytes. IsRefused bytes fault)
+head_refused TooLarge whole ahead left is fails cut read = refused_long whole ahead left TooLarge is fails refl
+head_refused Cut whole ahead left is fails cut read = absurd (cut refl)
+head_refused ReadFault whole ahead left is fails cut read = absurd (read refl)
+head_refused fault whole ahead left is fails cut read = absurd fails
+
+-- what holds of the bytes ahead at the end of the input holds of all
+pub at_end : (P : List ℕ → Type 0) (whole : Option (List ℕ)) (ahead : List ℕ) (left : Option (List ℕ))
+    → whole ≡ followed_by ahead left → IsAtEnd left → P ahead → IfSome whole P
+at_end P whole ahead None is end holds = rw is tt
+at_end P whole ahead (Some left) is end holds = rw (is, end, append-nil) holds
 
 pub refused_head : (whole : Option (List ℕ)) (ahead : List ℕ) (left : Option (List ℕ)) (start size : ℕ) (fault : HeadFault)
     → whole ≡ followed_by ahead left → IsHeadAt ahead start size → FailsBy (take size (drop start ahead)) fault

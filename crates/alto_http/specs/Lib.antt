@@ -4,5 +4,6 @@ pub mod Intake
 pub mod Laws
 pub mod Link
 pub mod MemLink
+pub mod Receive
 pub mod Request
 pub mod Splits

@@ -1,9 +1,10 @@
 //! Reads until a head, or a body, is there whole.
 ghost use Rattle.std.specs.Prelude.{◌≡◌, ◌<◌, ◌≤◌, ◌⊎◌, ◌+◌, ℕ, length, take, drop, List, ◌++◌, MatchOption, IfOk, IfErr, IsErrOf, OnOk, OnErr, IfSome};
-ghost use Rattle.alto_http.specs.Head.{breaks_before, HasNoEnd, IsHeadEnd};
+ghost use Rattle.alto_http.specs.Head.{breaks_before, IsHeadEnd};
 ghost use Rattle.alto_http.specs.Intake.{KeepsWhole, ReadsAhead, GivesBehind, reads_after};
 ghost use Rattle.alto_http.specs.Link.{followed_by, IsAtEnd};
-ghost use Rattle.alto_http.specs.Splits.{IsHeadAt, IsBlank, IsTooLong, EndsInHead, IsUnfinished};
+ghost use Rattle.alto_http.specs.Receive.{StartFails, EndFails, HeadFails};
+ghost use Rattle.alto_http.specs.Splits.{IsHeadAt, IsBlank};
 
 use crate::fault::HeadFault;
 use crate::intake::{HEAD_BYTES, Intake};
@@ -15,13 +16,9 @@ use std::alloc::Global;
 /// none at the end of the input.
 fn find_start<L: Link>(intake: &mut Intake, link: &mut L) -> Result<Option<usize>, HeadFault>
     ensures ahead { ReadsAhead intake.old (L.left link.old) intake.new (L.left link.new) }
-    ensures found { IfOk result (λ r. IfSome r (λ start. (start ≡ breaks_before intake.new) × (start < length intake.new))) }
-    ensures breaks { IfOk result (λ r. r ≡ None → (breaks_before intake.new ≡ length intake.new)
-        × (length intake.new < HEAD_BYTES) × IsAtEnd (L.left link.new)) }
-    ensures too_large { IsErrOf result HeadFault.TooLarge →
-        (breaks_before intake.new ≡ length intake.new) × (length intake.new ≡ HEAD_BYTES) }
-    ensures blank { IsErrOf result HeadFault.ReadFault → IsBlank intake.new }
-    ensures causes { IfErr result (λ e. (e ≡ HeadFault.TooLarge) ⊎ (e ≡ HeadFault.ReadFault)) }
+    ensures ok { IfOk result (λ r. MatchOption r (IsBlank intake.new × IsAtEnd (L.left link.new))
+        (λ start. (start ≡ breaks_before intake.new) × (start < length intake.new))) }
+    ensures err { IfErr result (λ e. StartFails e intake.new) }
 
     ensures counted { L.failed_reads link.new ≡ reads_after result (L.failed_reads link.old) }
     ensures out { L.out link.new ≡ L.out link.old }
@@ -47,15 +44,8 @@ fn find_start<L: Link>(intake: &mut Intake, link: &mut L) -> Result<Option<usize
 fn find_end<L: Link>(intake: &mut Intake, link: &mut L, start: usize) -> Result<usize, HeadFault>
     requires { start ≤ length intake.old }
     ensures ahead { ReadsAhead intake.old (L.left link.old) intake.new (L.left link.new) }
-    ensures found { IfOk result (IsHeadEnd (drop start intake.new)) }
-    ensures room { IfOk result (λ size. start + size ≤ HEAD_BYTES) }
-    ensures too_large { IsErrOf result HeadFault.TooLarge → HasNoEnd (length (drop start intake.new)) (drop start intake.new)
-        × (length intake.new ≡ HEAD_BYTES) }
-    ensures cut { IsErrOf result HeadFault.Cut → HasNoEnd (length (drop start intake.new)) (drop start intake.new)
-        × (length intake.new < HEAD_BYTES) × IsAtEnd (L.left link.new) }
-    ensures unended { IsErrOf result HeadFault.ReadFault → HasNoEnd (length (drop start intake.new)) (drop start intake.new)
-        × (length intake.new < HEAD_BYTES) }
-    ensures causes { IfErr result (λ e. (e ≡ HeadFault.TooLarge) ⊎ (e ≡ HeadFault.Cut) ⊎ (e ≡ HeadFault.ReadFault)) }
+    ensures ok { IfOk result (λ size. IsHeadEnd (drop start intake.new) size × (start + size ≤ HEAD_BYTES)) }
+    ensures err { IfErr result (λ e. EndFails e start intake.new (L.left link.new)) }
 
     ensures counted { L.failed_reads link.new ≡ reads_after result (L.failed_reads link.old) }
     ensures out { L.out link.new ≡ L.out link.old }
@@ -84,19 +74,18 @@ pub(crate) fn find_head<L: Link>(
     link: &mut L,
 ) -> Result<Option<(usize, usize)>, HeadFault>
     ensures ahead { ReadsAhead intake.old (L.left link.old) intake.new (L.left link.new) }
-    ensures found { IfOk result (λ r. IfSome r (λ place. IsHeadAt intake.new place.0 place.1)) }
-    ensures none { IfOk result (λ r. r ≡ None → IsBlank intake.new × IsAtEnd (L.left link.new)) }
-    ensures too_large { IsErrOf result HeadFault.TooLarge → IsTooLong intake.new }
-    ensures cut { IsErrOf result HeadFault.Cut → EndsInHead intake.new × IsAtEnd (L.left link.new) }
-    ensures unfinished { IsErrOf result HeadFault.ReadFault → IsUnfinished intake.new }
-    ensures causes { IfErr result (λ e. (e ≡ HeadFault.TooLarge) ⊎ (e ≡ HeadFault.Cut) ⊎ (e ≡ HeadFault.ReadFault)) }
+    ensures ok { IfOk result (λ r. MatchOption r (IsBlank intake.new × IsAtEnd (L.left link.new))
+        (λ place. IsHeadAt intake.new place.0 place.1)) }
+    ensures err { IfErr result (λ e. HeadFails e intake.new (L.left link.new)) }
 
     ensures counted { L.failed_reads link.new ≡ reads_after result (L.failed_reads link.old) }
     ensures out { L.out link.new ≡ L.out link.old }
     ensures failed_writes { L.failed_writes link.new ≡ L.failed_writes link.old }
 {
-    let Some(start) = find_start(intake, link)? else {
-        return Ok(None);
+    let start = match find_start(intake, link) {
+        Ok(Some(start)) => start,
+        Ok(None) => return Ok(None),
+        Err(fault) => return Err(fault),
     };
     match find_end(intake, link, start) {
         Ok(size) => Ok(Some((start, size))),

@@ -1,19 +1,36 @@
 use Rattle.std.proofs.Common.{◌≡◌, ℕ, List, take, drop, subst, ap, ◌∙◌, arith, inl, inr}
-use Rattle.alto_http.specs.declared.fault.HeadFault.TheVariants.{TooLarge}
+use Rattle.alto_http.specs.declared.fault.HeadFault.TheVariants.{Cut, ReadFault}
 use Rattle.alto_http.specs.Request.{Passes, FailsBy}
+use Rattle.alto_http.specs.Splits.{IsBlank, EndsInside}
 use Rattle.alto_http.proofs.Ahead.{ahead_whole, whole_same, whole_taken}
-use Rattle.alto_http.proofs.Answered.{refused_long, refused_head, cut_in_body, begins_with, unfinished_body, body_unfinished}
+use Rattle.alto_http.proofs.Answered.{head_refused, at_end, refused_head, cut_in_body, begins_with, unfinished_body, body_unfinished}
 use Rattle.alto_http.proofs.read.read_request.Goals as goal
+
+pub returns-in-Ok-None-clause-none : goal.returns-in-Ok-None-clause-none
+returns-in-Ok-None-clause-none g c is =
+    let blank = rw c.in-Ok-None.field-0-is at c.in-Ok-None.ensures.ok in
+    at_end IsBlank _ _ _ (ahead_whole _ _ _ _ c.find_head.ensures.ahead) blank.1 blank.0
 
 pub returns-in-Err-clause-refused : goal.returns-in-Err-clause-refused
 returns-in-Err-clause-refused g c other read memory =
-    let long : c.in-Err.fault ≡ TooLarge = grind (arith, c.in-Err.ensures.causes) in
-    refused_long _ _ _ _ (ahead_whole _ _ _ _ c.find_head.ensures.ahead) (c.in-Err.ensures.too_large (cc)) long
+    head_refused c.in-Err.fault _ _ _ (ahead_whole _ _ _ _ c.find_head.ensures.ahead) c.in-Err.ensures.err other read
+
+pub returns-in-Err-clause-cut : goal.returns-in-Err-clause-cut
+returns-in-Err-clause-cut g c is =
+    let cut : c.in-Err.fault ≡ Cut = cc in
+    let ends = rw cut at c.in-Err.ensures.err in
+    at_end EndsInside _ _ _ (ahead_whole _ _ _ _ c.find_head.ensures.ahead) ends.1 (inl ends.0)
+
+pub returns-in-Err-clause-cut_left : goal.returns-in-Err-clause-cut_left
+returns-in-Err-clause-cut_left g c is =
+    let cut : c.in-Err.fault ≡ Cut = cc in
+    let ends = rw cut at c.in-Err.ensures.err in
+    ends.1
 
 pub returns-in-Err-read_head-clause-refused : goal.returns-in-Err-read_head-clause-refused
 returns-in-Err-read_head-clause-refused g c other read memory =
     let place = c.in-Ok-Some.place in
-    let at = rw c.in-Ok-Some.field-0-is at c.in-Ok-Some.ensures.found in
+    let at = rw c.in-Ok-Some.field-0-is at c.in-Ok-Some.ensures.ok in
     let here : c.part-head.result.now ≡ take place.1 (drop place.0 c.find_head.new.intake) =
     c.part-head.ensures ∙ ap (λ xs. take place.1 (drop place.0 xs)) c.bytes.ensures.bytes in
     let P : List ℕ → Type 0 = λ head. FailsBy head c.in-Err-read_head.fault in
@@ -27,7 +44,7 @@ pub returns-in-Ok-take_body-clause-request : goal.returns-in-Ok-take_body-clause
 returns-in-Ok-take_body-clause-request g c =
     let place = c.in-Ok-Some.place in
     let read = c.in-Ok.read in
-    let at = rw c.in-Ok-Some.field-0-is at c.in-Ok-Some.ensures.found in
+    let at = rw c.in-Ok-Some.field-0-is at c.in-Ok-Some.ensures.ok in
     let here : c.part-head.result.now ≡ take place.1 (drop place.0 c.find_head.new.intake) =
     c.part-head.ensures ∙ ap (λ xs. take place.1 (drop place.0 xs)) c.bytes.ensures.bytes in
     let P : List ℕ → Type 0 = λ head. Passes head read.0 read.1 in
@@ -43,7 +60,7 @@ pub returns-in-Err-take_body-clause-cut : goal.returns-in-Err-take_body-clause-c
 returns-in-Err-take_body-clause-cut g c is =
     let place = c.in-Ok-Some.place in
     let read = c.in-Ok.read in
-    let at = rw c.in-Ok-Some.field-0-is at c.in-Ok-Some.ensures.found in
+    let at = rw c.in-Ok-Some.field-0-is at c.in-Ok-Some.ensures.ok in
     let here : c.part-head.result.now ≡ take place.1 (drop place.0 c.find_head.new.intake) =
     c.part-head.ensures ∙ ap (λ xs. take place.1 (drop place.0 xs)) c.bytes.ensures.bytes in
     let P : List ℕ → Type 0 = λ head. Passes head read.0 read.1 in
@@ -58,13 +75,15 @@ returns-in-Err-take_body-clause-whole g c =
 
 pub returns-in-Err-clause-unfinished : goal.returns-in-Err-clause-unfinished
 returns-in-Err-clause-unfinished g c is =
-    (_, ahead_whole _ _ _ _ c.find_head.ensures.ahead, c.in-Err.ensures.unfinished (cc))
+    let read : c.in-Err.fault ≡ ReadFault = cc in
+    let unfinished = rw read at c.in-Err.ensures.err in
+    (_, ahead_whole _ _ _ _ c.find_head.ensures.ahead, unfinished)
 
 pub returns-in-Err-take_body-clause-unfinished : goal.returns-in-Err-take_body-clause-unfinished
 returns-in-Err-take_body-clause-unfinished g c is =
     let place = c.in-Ok-Some.place in
     let read = c.in-Ok.read in
-    let at = rw c.in-Ok-Some.field-0-is at c.in-Ok-Some.ensures.found in
+    let at = rw c.in-Ok-Some.field-0-is at c.in-Ok-Some.ensures.ok in
     let here : c.part-head.result.now ≡ take place.1 (drop place.0 c.find_head.new.intake) =
     c.part-head.ensures ∙ ap (λ xs. take place.1 (drop place.0 xs)) c.bytes.ensures.bytes in
     let P : List ℕ → Type 0 = λ head. Passes head read.0 read.1 in
@@ -82,7 +101,7 @@ pub returns-in-Err-take_body-clause-kept : goal.returns-in-Err-take_body-clause-
 returns-in-Err-take_body-clause-kept g c is =
     let place = c.in-Ok-Some.place in
     let read = c.in-Ok.read in
-    let at = rw c.in-Ok-Some.field-0-is at c.in-Ok-Some.ensures.found in
+    let at = rw c.in-Ok-Some.field-0-is at c.in-Ok-Some.ensures.ok in
     let here : c.part-head.result.now ≡ take place.1 (drop place.0 c.find_head.new.intake) =
     c.part-head.ensures ∙ ap (λ xs. take place.1 (drop place.0 xs)) c.bytes.ensures.bytes in
     let P : List ℕ → Type 0 = λ head. Passes head read.0 read.1 in
