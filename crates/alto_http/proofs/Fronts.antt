@@ -9,7 +9,7 @@ use Rattle.alto_http.specs.Request.{Passes}
 use Rattle.alto_http.specs.Splits.{IsHeadAt}
 use Rattle.alto_http.proofs.Heads.{breaks_append, breaks_all}
 
--- the end of a head is seen in a front that holds it
+-- the end of a head is seen in a prefix that holds it
 head_end_front : (front more : List ℕ) (n : ℕ) → n ≤ length front → IsHeadEnd (front ++ more) n → IsHeadEnd front n
 head_end_front front more n h is = record {
   within = h;
@@ -17,7 +17,7 @@ head_end_front front more n h is = record {
   first = λ m lt. (let le : m ≤ length front = omega arith in ap ends_in_empty_line (sym (take-append-le m front more le))) ∙ is.first m lt;
 }
 
--- the shortest front that ends in an empty line has some bytes
+-- the shortest prefix that ends in an empty line has some bytes
 some_bytes : (bytes : List ℕ) (n : ℕ) → IsHeadEnd bytes n → 0 < n
 some_bytes bytes n is =
     ⊎_elim (λ lt. lt)

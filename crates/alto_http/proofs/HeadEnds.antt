@@ -1,4 +1,4 @@
--- A head that the grammar reads ends in an empty line, so it is the shortest front that does.
+-- A head that the grammar reads ends in an empty line, so it is the shortest prefix that does.
 use Rattle.std.proofs.Common.{◌≡◌, ℕ, ◌+◌, ◌-◌, ◌≤◌, Bool, true, false, ◌||◌, List, [], ◌∷◌, ◌++◌, length, take, drop, refl, ap, sym, ◌∙◌, ⊎_elim, append_assoc, length-append, length-take, arith}
 use Rattle.std.specs.List.{flat_map}
 use Rattle.std.proofs.lemmas.Bool.{cases_lt, false≢true}

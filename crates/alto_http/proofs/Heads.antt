@@ -6,14 +6,14 @@ use Rattle.std.proofs.lemmas.List.Sums.{prefix_len-le-length}
 use Rattle.std.proofs.lemmas.List.{take-append-le, take-append-drop}
 use Rattle.alto_http.specs.Head.{is_break, breaks_before, ends_in_empty_line, HasNoEnd, IsHeadEnd}
 
--- one front more is looked at
+-- one prefix more is looked at
 pub no_end_more : (bytes : List ℕ) (n : ℕ) → HasNoEnd n bytes → ends_in_empty_line (take (n + 1) bytes) ≡ false → HasNoEnd (n + 1) bytes
 no_end_more bytes n before here m h =
     ⊎_elim (λ lt. before m (omega arith))
     (λ ge. let e : m ≡ n + 1 = omega arith in ap (λ k. ends_in_empty_line (take k bytes)) e ∙ here)
     (cases_lt m (n + 1))
 
--- line breaks behind a front that is all line breaks
+-- line breaks behind a prefix that is all line breaks
 pub breaks_behind : (bytes : List ℕ) (n : ℕ) → n ≤ length bytes → breaks_before (take n bytes) ≡ n
     → n + breaks_before (drop n bytes) ≡ breaks_before bytes
 breaks_behind bytes n h front =

@@ -1,4 +1,4 @@
--- Bytes begin with one request at most, or end in one way, and split in one way.
+-- Bytes begin with one request at most, or end unambiguously, and split unambiguously.
 use Rattle.std.proofs.Common.{◌≡◌, ℕ, ◌+◌, ◌-◌, ◌≤◌, List, [], ◌∷◌, ◌++◌, length, take, drop, Ok, Err, refl, ap, sym, subst, ◌∙◌, inl, inr, ⊎_elim, append_assoc, arith, length-append}
 use Rattle.std.proofs.lemmas.Bool.{cases_order, false≢true}
 use Rattle.std.proofs.lemmas.List.{take-append-drop}
@@ -83,7 +83,7 @@ fault_one head one other (inr (inr a)) (inr (inr b)) =
 
 -- ---- what bytes begin with
 
--- two fronts of one length are one, and leave one rest
+-- two prefixes of one length are one, and leave one rest
 cut_one : (a b r s : List ℕ) → length a ≡ length b → a ++ r ≡ b ++ s → (a ≡ b) × (r ≡ s)
 cut_one [] [] r s long whole = (refl, whole)
 cut_one [] (y ∷ b) r s long whole = absurd (omega (arith, long))

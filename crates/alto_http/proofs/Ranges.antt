@@ -28,7 +28,7 @@ rotated_front xs start end h w =
     ∙ take_at (drop start (take end xs)) _ (end - start) long
     ∙ range_split xs start end h
 
--- a longer range from the front is the front and the rest
+-- a longer range from the first byte is a prefix and the rest
 pub range_joined : (xs : List ℕ) (end k : ℕ) → slice_range xs 0 (end + k) ≡ take end xs ++ slice_range xs end (end + k)
 range_joined xs end k =
     let e : end + k - end ≡ k = omega arith in
@@ -77,7 +77,7 @@ swap_rests xs ys n count front =
     ∙ ap (λ a. a ++ drop n xs) (sym front ∙ take_all n ys h))
     (cases_lt (length xs) (length ys))
 
--- what is the same of a front is the same of a shorter one
+-- what is the same of a prefix is the same of a shorter one
 pub take_shorter : (xs ys : List ℕ) (m n : ℕ) → m ≤ n → take n ys ≡ take n xs → take m ys ≡ take m xs
 take_shorter xs ys m n h same = sym (take-take m n ys h) ∙ ap (take m) same ∙ take-take m n xs h
 
@@ -87,7 +87,7 @@ range_to_end xs start =
     let h : length (drop start xs) ≤ length xs - start = simp length-drop (omega arith) in
     take_all (length xs - start) (drop start xs) h
 
--- what is left is its front and what is left behind it
+-- what is left is a prefix of it and what is left behind that
 pub given_front : (xs front : List ℕ) (given k : ℕ) → front ≡ take k (drop given xs) → drop given xs ≡ front ++ drop (given + k) xs
 given_front xs front given k is =
     sym (take-append-drop k (drop given xs)) ∙ ap (λ a. a ++ drop k (drop given xs)) (sym is) ∙ ap (λ a. front ++ a) (drop-drop k given xs)

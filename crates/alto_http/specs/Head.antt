@@ -7,7 +7,7 @@ use Rattle.httparse.specs.Ascii.{line_feed, carriage_return, crlf_bytes}
 abbrev pub is_break : ℕ → Bool
 is_break b = b == carriage_return || b == line_feed
 
--- how many such bytes stand at the front
+-- how many such bytes come first
 abbrev pub breaks_before : List ℕ → ℕ
 breaks_before bytes = prefix_len is_break bytes
 
@@ -15,11 +15,11 @@ breaks_before bytes = prefix_len is_break bytes
 abbrev pub ends_in_empty_line : List ℕ → Bool
 ends_in_empty_line bytes = ends_with nat_eq bytes (line_feed ∷ line_feed ∷ []) || ends_with nat_eq bytes (line_feed ∷ crlf_bytes)
 
--- no front of up to n bytes ends in an empty line
+-- no prefix of up to n bytes ends in an empty line
 abbrev pub HasNoEnd : ℕ → List ℕ → Type 0
 HasNoEnd n bytes = (m : ℕ) → m ≤ n → ends_in_empty_line (take m bytes) ≡ false
 
--- the head is the shortest front that ends in an empty line, and has n bytes
+-- the head is the shortest prefix that ends in an empty line, and has n bytes
 pub record IsHeadEnd (bytes : List ℕ) (n : ℕ) : Type 0 where
   pub within : n ≤ length bytes
   pub ends : IsTrue (ends_in_empty_line (take n bytes))

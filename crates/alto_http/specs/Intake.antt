@@ -22,7 +22,7 @@ GivesOnly P ahead left left' = (given : List ℕ) × (followed_by ahead left ≡
 abbrev pub GivesBehind : (List ℕ → Type 0) → List ℕ → Option (List ℕ) → Option (List ℕ) → Type 0
 GivesBehind P ahead left left' = (given : List ℕ) × ReadsAhead ahead left given left' × P given
 
--- the count of failed reads after a call: one more where it answers a fault of a read
+-- the count of failed reads after a call: one more where it answers a failed read
 abbrev pub reads_after : {T : Type 0} → Result T HeadFault → ℕ → ℕ
 reads_after (Ok value) n = n
 reads_after (Err ReadFault) n = one_more n

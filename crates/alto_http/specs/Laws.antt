@@ -15,11 +15,11 @@ BeginIsOne = (bytes : List ℕ) (one other : RequestData) (rest remainder : List
 abbrev pub BeginIsNoEnd : Type 0
 BeginIsNoEnd = (bytes : List ℕ) (request : RequestData) (rest : List ℕ) (ending : Ending) → Begins bytes request rest → Ends bytes ending → ⊥
 
--- bytes end in one way at most: blank, cut, or refused by one fault
+-- how bytes end is unambiguous: blank, cut, or refused by one fault
 abbrev pub EndIsOne : Type 0
 EndIsOne = (bytes : List ℕ) (one other : Ending) → Ends bytes one → Ends bytes other → one ≡ other
 
--- bytes split in one way at most
+-- the split of bytes is unambiguous
 abbrev pub SplitIsOne : Type 0
 SplitIsOne = (bytes : List ℕ) (requests others : List RequestData) (ending other : Ending)
     → Splits bytes requests ending → Splits bytes others other → (requests ≡ others) × (ending ≡ other)
@@ -38,9 +38,9 @@ BeginIsWhole = (bytes : List ℕ) (request : RequestData) (rest : List ℕ)
 -- a request that bytes begin with stands whole in the bytes before what is cut off behind it
 abbrev pub BeginNeedsNoMore : Type 0
 BeginNeedsNoMore = (bytes : List ℕ) (request : RequestData) (rest more : List ℕ)
-    → Begins bytes request (rest ++ more) → (front : List ℕ) × (bytes ≡ front ++ more) × Begins front request rest
+    → Begins bytes request (rest ++ more) → (prefix : List ℕ) × (bytes ≡ prefix ++ more) × Begins prefix request rest
 
--- a refusal has the fault of a check: it is no cut, no failed read and no want of memory
+-- a refusal has the fault of a check: it is no cut, no failed read and not out of memory
 abbrev pub RefusalIsByACheck : Type 0
 RefusalIsByACheck = (bytes : List ℕ) (fault : HeadFault)
     → IsRefused bytes fault → (fault ≢ Cut) × (fault ≢ ReadFault) × (fault ≢ Memory)

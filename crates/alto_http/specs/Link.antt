@@ -11,16 +11,16 @@ abbrev pub count_after : {T E : Type 0} → Result T E → ℕ → ℕ
 count_after (Ok value) n = n
 count_after (Err fault) n = one_more n
 
--- these bytes and then what is left, where it is told what is left
+-- these bytes and then what is left, where that is known
 abbrev pub followed_by : List ℕ → Option (List ℕ) → Option (List ℕ)
 followed_by bytes None = None
 followed_by bytes (Some left) = Some (bytes ++ left)
 
--- what is out once this piece is, where it is told what is out
+-- what is out once this piece is, where what was out is known
 abbrev pub extended : Option (List ℕ) → List ℕ → Option (List ℕ)
 extended None piece = None
 extended (Some out) piece = Some (out ++ piece)
 
--- where it is told what is left, that is nothing
+-- nothing is left, where what is left is known
 abbrev pub IsAtEnd : Option (List ℕ) → Type 0
 IsAtEnd left = IfSome left (λ bytes. bytes ≡ [])

@@ -30,7 +30,7 @@ abbrev pub piece_size : List ℕ → ℕ → ℕ
 piece_size [] call = 2 ^ 64 - 1
 piece_size (size ∷ sizes) call = max (slice_index (size ∷ sizes) (call % length (size ∷ sizes))) 1
 
--- how many bytes the next read gives where there is room for so many
+-- how many bytes the next read gives where there is room for `room` bytes
 abbrev pub read_count : MemLinkData → ℕ → ℕ
 read_count link room = min (piece_size link.sizes link.reads) (min room (length link.left))
 

@@ -10,7 +10,7 @@ use Rattle.alto_http.specs.Request.{RequestData, Passes, FailsBy}
 abbrev pub head_limit : ℕ
 head_limit = 16384
 
--- a head of so many bytes stands behind so many line breaks
+-- a head of `size` bytes stands behind `start` line breaks
 pub record IsHeadAt (bytes : List ℕ) (start size : ℕ) : Type 0 where
   pub behind_breaks : start ≡ breaks_before bytes
   pub ends : IsHeadEnd (drop start bytes) size

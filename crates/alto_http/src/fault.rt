@@ -1,5 +1,5 @@
 ghost use Rattle.std.specs.Prelude.{◌≡◌};
-ghost use Rattle.alto_http.specs.declared.fault.HeadFault.TheVariants.{Memory as WantOfMemory, ReadFault as FaultOfRead};
+ghost use Rattle.alto_http.specs.declared.fault.HeadFault.TheVariants.{Memory as OutOfMemory, ReadFault as FailedRead};
 
 use crate::link::Failed;
 use std::alloc::{AllocError, AllocFailed};
@@ -26,7 +26,7 @@ pub enum HeadFault {
 }
 
 impl From<Failed> for HeadFault {
-    ghost from_gives = { λ _ e. e ≡ FaultOfRead };
+    ghost from_gives = { λ _ e. e ≡ FailedRead };
 
     fn from(_: Failed) -> HeadFault {
         HeadFault::ReadFault
@@ -34,7 +34,7 @@ impl From<Failed> for HeadFault {
 }
 
 impl From<AllocError> for HeadFault {
-    ghost from_gives = { λ _ e. e ≡ WantOfMemory };
+    ghost from_gives = { λ _ e. e ≡ OutOfMemory };
 
     fn from(_: AllocError) -> HeadFault {
         HeadFault::Memory
@@ -42,7 +42,7 @@ impl From<AllocError> for HeadFault {
 }
 
 impl<T: Drop> From<AllocFailed<T>> for HeadFault {
-    ghost from_gives = { λ _ e. e ≡ WantOfMemory };
+    ghost from_gives = { λ _ e. e ≡ OutOfMemory };
 
     fn from(_: AllocFailed<T>) -> HeadFault {
         HeadFault::Memory

@@ -1,5 +1,5 @@
-ghost use Rattle.std.specs.Prelude.{◌≡◌, ◌<◌, ◌≤◌, ◌+◌, ◌-◌, ◌++◌, ℕ, List, [], length, min, take, drop, slice_range, IfOk, OnErr};
-ghost use Rattle.alto_http.specs.Link.{count_after, followed_by, IsAtEnd};
+ghost use Rattle.std.specs.Prelude.{◌≡◌, ◌<◌, ◌≤◌, ◌+◌, ◌-◌, ℕ, List, [], length, min, take, drop, slice_range, IfOk, OnErr};
+ghost use Rattle.alto_http.specs.Link.{count_after, IsAtEnd};
 
 use crate::link::{Failed, Link, read_behind};
 use std::alloc::{AllocError, Global};

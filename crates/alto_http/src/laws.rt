@@ -8,12 +8,12 @@ pub fn next_is_one()
     ensures end { EndIsOne }
 {}
 
-/// Bytes split into requests and an ending in one way at most, however they come.
+/// The split of bytes into requests and an ending is unambiguous, however they come.
 pub fn split_is_one()
     ensures { SplitIsOne }
 {}
 
-/// The shortest front that ends in an empty line is the whole head that the grammar reads: nothing is
+/// The shortest prefix that ends in an empty line is the whole head that the grammar reads: nothing is
 /// left of it.
 pub fn head_is_read_whole()
     ensures { HeadIsReadWhole }

@@ -6,12 +6,12 @@ ghost use Rattle.alto_http.specs.Link.{count_after, followed_by, extended, IsAtE
 pub struct Failed;
 
 /// A connection, as bytes that come in and bytes that go out. Each direction may fail, and counts
-/// how often it has. A kind in memory also tells the bytes themselves; a socket does not.
+/// how often it has. Of a link in memory the bytes themselves are known; of a socket they are not.
 pub trait Link {
-    /// The bytes that reads have still to give, where they are told.
+    /// The bytes that reads have still to give, where they are known.
     ghost left: { Self → Option (List ℕ) };
 
-    /// The bytes that writes have put out, where they are told.
+    /// The bytes that writes have put out, where they are known.
     ghost out: { Self → Option (List ℕ) };
 
     /// How many reads have failed.

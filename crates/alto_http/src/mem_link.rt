@@ -77,8 +77,8 @@ impl MemLink {
         })
     }
 
-    /// The same, where each read gives at most so many bytes: the sizes in turn, again and again,
-    /// a 0 counting as 1.
+    /// The same, where each read gives at most the next of `sizes`, from the first again behind the
+    /// last; a 0 counts as 1.
     pub fn with_sizes(mut self, sizes: Vec<usize>) -> MemLink
         ensures { result ≡ record self { sizes = sizes.items } }
     {

@@ -1,4 +1,4 @@
-ghost use Rattle.std.specs.Prelude.{◌≡◌, ◌≢◌, ◌++◌, ℕ, List, IfOk, IfErr, IfSome, IsErrOf, OnErr, ◌⊎◌, Some};
+ghost use Rattle.std.specs.Prelude.{◌≡◌, ◌≢◌, ℕ, List, IfOk, IfErr, IfSome, IsErrOf, ◌⊎◌, Some};
 ghost use Rattle.alto_http.specs.Intake.{GivesOnly, KeepsWhole, ReadsAhead, reads_after};
 ghost use Rattle.alto_http.specs.Link.{followed_by, IsAtEnd};
 ghost use Rattle.alto_http.specs.Splits.{Begins, IsBlank, IsRefused, IsUnfinished, EndsInBody, EndsInside};
@@ -19,7 +19,7 @@ pub fn read_request<L: Link>(
     intake: &mut Intake,
     link: &mut L,
 ) -> Result<Option<Request>, HeadFault>
-    // Where the link tells its bytes, those ahead and those left begin with the answer.
+    // Where the link's bytes are known, those ahead and those left begin with the answer.
     ensures request { IfOk result (λ r. IfSome r (λ request. IfSome (followed_by intake.old (L.left link.old)) (λ bytes.
         (rest : List ℕ) × (followed_by intake.new (L.left link.new) ≡ Some rest) × Begins bytes request rest))) }
     ensures none { IfOk result (λ r. r ≡ None → IfSome (followed_by intake.old (L.left link.old)) IsBlank) }
@@ -33,14 +33,14 @@ pub fn read_request<L: Link>(
     ensures none_left { IfOk result (λ request. request ≡ None → IsAtEnd (L.left link.new)) }
     ensures cut_left { IsErrOf result HeadFault.Cut → IsAtEnd (L.left link.new) }
 
-    // What is refused is ahead still, and so is all that came after a fault of a read, unless a body had begun.
+    // What is refused stays ahead, and after a failed read so does all that came, unless a body had begun.
     ensures stays { IfErr result (λ e. (e ≢ HeadFault.Cut) → (e ≢ HeadFault.ReadFault) → (e ≢ HeadFault.Memory)
         → ReadsAhead intake.old (L.left link.old) intake.new (L.left link.new)) }
     ensures kept { IsErrOf result HeadFault.ReadFault
         → ReadsAhead intake.old (L.left link.old) intake.new (L.left link.new)
         ⊎ GivesOnly EndsInBody intake.old (L.left link.old) (L.left link.new) }
 
-    // It answers a fault of a read exactly where one was counted.
+    // It answers `ReadFault` exactly where a failed read was counted.
     ensures counted { L.failed_reads link.new ≡ reads_after result (L.failed_reads link.old) }
     ensures out { L.out link.new ≡ L.out link.old }
     ensures failed_writes { L.failed_writes link.new ≡ L.failed_writes link.old }

@@ -2,8 +2,8 @@
 ghost use Rattle.std.specs.Prelude.{◌≡◌, ◌≤◌, ◌+◌, length, take, drop, IfSome, IfNone};
 ghost use Rattle.alto_http.specs.Head.{is_break, breaks_before, ends_in_empty_line, HasNoEnd, IsHeadEnd, line_feeds};
 
-/// How many CR and LF bytes stand at the front, where the first `passed` are such; only what stands
-/// behind those is looked at.
+/// How many CR and LF bytes come first, where the first `passed` are such; only what stands behind
+/// those is looked at.
 pub(crate) fn breaks_before(bytes: &[u8], passed: usize) -> usize
     requires within { passed ≤ length bytes.now }
     requires breaks { breaks_before (take passed bytes.now) ≡ passed }
@@ -39,7 +39,7 @@ fn ends_in_empty_line(bytes: &[u8]) -> bool
     bytes.ends_with(b"\n\n") || bytes.ends_with(b"\n\r\n")
 }
 
-/// How many bytes the head has that begins here, where its end is there. No front of up to `from`
+/// How many bytes the head has that begins here, where its end is there. No prefix of up to `from`
 /// bytes is a head; only what stands behind them is looked at.
 pub(crate) fn head_end(bytes: &[u8], from: usize) -> Option<usize>
     requires within { from ≤ length bytes.now }

@@ -1,4 +1,4 @@
-use Rattle.std.proofs.Common.{◌≡◌, ℕ, List, take, drop, subst, ap, ◌∙◌, arith, inl, inr}
+use Rattle.std.proofs.Common.{◌≡◌, ℕ, List, take, drop, subst, ap, ◌∙◌, inl, inr}
 use Rattle.alto_http.specs.declared.fault.HeadFault.TheVariants.{Cut, ReadFault}
 use Rattle.alto_http.specs.Request.{Passes, FailsBy}
 use Rattle.alto_http.specs.Splits.{IsBlank, EndsInside}
