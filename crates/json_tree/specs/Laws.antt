@@ -1,10 +1,11 @@
--- What holds of texts and the values that they stand for: the statements of the laws.
+-- What holds of texts and pointers and what they stand for: the statements of the laws.
 use Rattle.std.specs.Prelude.{◌≡◌, ℕ, List, ◌^◌, ◌<◌, ◌≤◌, Ok, ⊤}
 use Rattle.std.specs.Str.{IsUtf8}
 use Rattle.serde_json.specs.Data.{Num, unsigned, negative, float, Data, null, boolean, number, string, array, object, Items, no_items, item, Members, no_members, member, depth}
 use Rattle.serde_json.specs.Read.{max_depth, read}
 use Rattle.serde_json.specs.Written.{compact_text}
 use Rattle.json_tree.specs.Order.{AreInOrder}
+use Rattle.json_tree.specs.Pointer.{pointer_text}
 use Rattle.json_tree.specs.Whole.{value_of, whole_value}
 
 -- a whole number from 0 to 2^64 - 1
@@ -38,3 +39,7 @@ TextsReadBack = (d : Data) → IsOfTree d → depth d ≤ max_depth → whole_va
 -- the value of a text in UTF-8 is the one that serde_json reads
 abbrev pub ValuesAreRead : Type 0
 ValuesAreRead = (text : List ℕ) → IsUtf8 text → value_of text ≡ read text
+
+-- a text is the pointer along one list of names at most
+abbrev pub PointersAreUnambiguous : Type 0
+PointersAreUnambiguous = (names others : List (List ℕ)) → pointer_text names ≡ pointer_text others → names ≡ others

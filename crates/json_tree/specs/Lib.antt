@@ -1,7 +1,9 @@
 pub mod Document
+pub mod Escape
 pub mod Faults
 pub mod Laws
 pub mod Members
 pub mod Order
+pub mod Pointer
 pub mod Tree
 pub mod Whole

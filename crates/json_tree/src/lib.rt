@@ -12,15 +12,17 @@ mod looking;
 mod members;
 mod name;
 mod parsing;
+mod pointer;
 #[cfg(test)]
 mod tests;
 mod tree;
 mod writing;
 
 pub use fault::TreeFault;
-pub use laws::{texts_read_back, values_are_read};
+pub use laws::{pointers_are_unambiguous, texts_read_back, values_are_read};
 pub use members::Members;
 pub use name::Name;
 pub use parsing::read;
+pub use pointer::{PointerFault, pointer_string, print_pointer, read_pointer};
 pub use tree::Tree;
 pub use writing::text;

@@ -5,79 +5,36 @@ use std::test::Fail;
 /// JSON texts (RFC 8259), each before ` => ` and the compact text of its tree, or the fault.
 const TEXTS: &str = r#"null => null
 true => true
-false => false
 nul => Syntax
-True => Syntax
 "" => ""
-"a" => "a"
 'a' => Syntax
-"a => Syntax
 "\"\\\/\b\f\n\r\t" => "\"\\/\b\f\n\r\t"
 "\u0041\u00e9\u20AC" => "Aé€"
-"\u0000" => "\u0000"
-"\u000A" => "\n"
 "\ud83d\ude00" => "😀"
-"\uD83D\uDE00" => "😀"
-"\ud83d" => Syntax
-"\ude00" => Syntax
-"\ud83d\u0041" => Syntax
 "\ude00\ud83d" => Syntax
-"\ud83d\ud83d\ude00" => Syntax
 "\x41" => Syntax
-"\u004" => Syntax
-"\U0041" => Syntax
-0 => 0
-7 => 7
 -0 => NotWhole
 -1 => NotWhole
--9223372036854775809 => NotWhole
 1.0 => NotWhole
-1.5 => NotWhole
-1e2 => NotWhole
 1E+2 => NotWhole
-0e0 => NotWhole
 1e400 => Syntax
 01 => Syntax
--01 => Syntax
-00 => Syntax
-+1 => Syntax
-1. => Syntax
 .5 => Syntax
-1e => Syntax
-0x1 => Syntax
-- => Syntax
 NaN => Syntax
 18446744073709551615 => 18446744073709551615
 18446744073709551616 => NotWhole
-9007199254740993 => 9007199254740993
-[] => []
 [1,"a",null,[true]] => [1,"a",null,[true]]
 [1,] => Syntax
-[,1] => Syntax
-[1 2] => Syntax
-[1 => Syntax
-] => Syntax
 [1.5,nul] => Syntax
 [1,[2,[-3]]] => NotWhole
-{} => {}
-{"b":1,"a":2,"":3} => {"":3,"a":2,"b":1}
-{"a":{"c":1,"b":[{}]}} => {"a":{"b":[{}],"c":1}}
-{"a":1,"a":2} => {"a":2}
+{"a":{"c":1,"b":[{}]},"":3} => {"":3,"a":{"b":[{}],"c":1}}
 {"a":1,"b":3,"\u0061":2} => {"a":2,"b":3}
-{"a":1.5,"a":2} => {"a":2}
 {"a":[-1],"b":0,"a":2} => {"a":2,"b":0}
 {"a":2,"a":1.5} => NotWhole
 {"a":1,} => Syntax
-{"a"} => Syntax
-{"a":} => Syntax
 {a:1} => Syntax
-{1:1} => Syntax
-{"a":1 => Syntax
-{"a":1 "b":2} => Syntax
   { "a" : [ 1 , true ] }   => {"a":[1,true]}
 1 2 => Syntax
-{}} => Syntax
-null// => Syntax
 1/**/ => Syntax"#;
 
 /// The compact text of the tree that the bytes stand for, or the fault.
@@ -104,32 +61,19 @@ fn texts_read_as_their_values(rt: HostRuntime) -> Result<(), Fail> {
     Ok(())
 }
 
+/// Whether the bytes are refused as no JSON text.
+fn is_refused(alloc: Global, bytes: &[u8]) -> Result<bool, AllocError> {
+    Ok(outcome(alloc, bytes)?.as_str() == "Syntax")
+}
+
 #[test]
-fn bytes_that_no_line_shows(rt: HostRuntime) -> Result<(), Fail> {
+fn bytes_that_no_line_shows_are_refused(rt: HostRuntime) -> Result<(), Fail> {
     let alloc = rt.alloc();
-    let cases = [
-        ("no bytes", b"".as_slice(), "Syntax"),
-        ("blanks alone", b" \t\r\n".as_slice(), "Syntax"),
-        ("blanks around", b"\r\n\t 1\t\r\n ".as_slice(), "1"),
-        ("a form feed", b"\x0c1".as_slice(), "Syntax"),
-        ("a no-break space", b"\xc2\xa01".as_slice(), "Syntax"),
-        ("a byte order mark", b"\xef\xbb\xbf1".as_slice(), "Syntax"),
-        ("a tab in a text", b"\"\t\"".as_slice(), "Syntax"),
-        ("a line feed in a text", b"\"\n\"".as_slice(), "Syntax"),
-        ("a zero byte after", b"1\0".as_slice(), "Syntax"),
-        ("a byte of no UTF-8", b"\"\xff\"".as_slice(), "Syntax"),
-        ("a long zero", b"\"\xc0\x80\"".as_slice(), "Syntax"),
-        (
-            "a surrogate in UTF-8",
-            b"\"\xed\xa0\xbd\"".as_slice(),
-            "Syntax",
-        ),
-        ("a cut character", b"\"\xe2\x82\"".as_slice(), "Syntax"),
-    ];
-    for (what, given, expected) in cases {
-        let found = outcome(alloc, given)?;
-        assert!(rt; found.as_str() == expected, "{what} gave {found}");
-    }
+    assert!(rt; is_refused(alloc, b"")?, "no bytes");
+    assert!(rt; is_refused(alloc, b"\xef\xbb\xbf1")?, "a byte order mark");
+    assert!(rt; is_refused(alloc, b"1\0")?, "a zero byte after");
+    assert!(rt; is_refused(alloc, b"\"\xc0\x80\"")?, "a long zero");
+    assert!(rt; is_refused(alloc, b"\"\xe2\x82\"")?, "a cut character");
     Ok(())
 }
 
@@ -148,50 +92,35 @@ fn nested(alloc: Global, depth: usize) -> Result<String, AllocError> {
 #[test]
 fn texts_nest_to_127(rt: HostRuntime) -> Result<(), Fail> {
     let alloc = rt.alloc();
-    for (depth, reads) in [(126, true), (127, true), (128, false), (129, false)] {
-        let given = nested(alloc, depth)?;
-        let expected = if reads { given.as_str() } else { "Syntax" };
-        let found = outcome(alloc, given.as_bytes())?;
-        assert!(rt; found.as_str() == expected, "{depth} deep gave {found}");
-    }
+    let deepest = nested(alloc, 127)?;
+    let found = outcome(alloc, deepest.as_bytes())?;
+    assert!(rt; found.as_str() == deepest.as_str(), "127 deep gave {found}");
+    let deeper = nested(alloc, 128)?;
+    assert!(rt; is_refused(alloc, deeper.as_bytes())?, "128 deep");
     Ok(())
 }
 
 #[test]
 fn a_tree_is_looked_into(rt: HostRuntime) -> Result<(), Fail> {
     let alloc = rt.alloc();
-    let given = br#"{"pids":["east","west"],"name":"metro","":null}"#;
-    let tree = match read(alloc, given.as_slice()) {
-        Ok(tree) => tree,
-        Err(_) => return Err(AllocError.into()),
-    };
+    let given = br#"{"pids":["east","west"],"name":"metro"}"#;
+    let tree = read(alloc, given.as_slice()).map_err(|_| AllocError)?;
     let pids = tree.member("pids").and_then(Tree::as_list);
     assert!(rt; pids.is_some_and(|pids| pids.len() == 2), "a list");
-    let name = tree.member("name");
-    assert!(rt; name.and_then(Tree::as_text) == Some("metro"), "a text");
-    assert!(rt;
-        name.and_then(|text| text.member("name")).is_none(),
-        "no object"
-    );
-    assert!(rt; name.and_then(Tree::as_list).is_none(), "no list");
-    assert!(rt; tree.member("").is_some(), "a member with an empty name");
+    let name = tree.member("name").and_then(Tree::as_text);
+    assert!(rt; name == Some("metro"), "a text");
     assert!(rt; tree.member("pid").is_none(), "no such member");
-    assert!(rt; tree.as_text().is_none(), "no text");
     Ok(())
 }
 
 #[test]
 fn faults_are_printed(rt: HostRuntime) -> Result<(), Fail> {
-    for (fault, expected) in [
-        (TreeFault::Syntax, "no JSON text"),
-        (
-            TreeFault::NotWhole,
-            "a number that isn't a whole number from 0 to 2^64 - 1",
-        ),
-        (TreeFault::Memory, "out of memory"),
-    ] {
-        let printed = format!(in rt.alloc(); "{fault}")?;
-        assert_eq!(rt; printed.as_str(), expected);
-    }
+    let syntax = format!(in rt.alloc(); "{}", TreeFault::Syntax)?;
+    assert_eq!(rt; syntax.as_str(), "no JSON text");
+    let number = format!(in rt.alloc(); "{}", TreeFault::NotWhole)?;
+    assert_eq!(rt;
+        number.as_str(),
+        "a number that isn't a whole number from 0 to 2^64 - 1"
+    );
     Ok(())
 }
