@@ -1,2 +1,4 @@
 pub mod MemberLemmas
 pub mod MergeLemmas
+pub mod OperationLemmas
+pub mod OperationListLemmas

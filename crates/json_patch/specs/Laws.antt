@@ -1,9 +1,12 @@
--- What holds of every merge (RFC 7396): the statements of the laws.
+-- What holds of every merge (RFC 7396), and of operations as documents (RFC 6902): the statements of the laws.
 use Rattle.std.specs.Prelude.{◌≡◌, ◌⊎◌, ℕ, List, if◌then◌else◌, Option, Some, None, unwrap_or}
 use Rattle.serde_json.specs.Data.{Data, null, object, Members, no_members, member}
 use Rattle.serde_json.specs.Find.{get, get_member}
 use Rattle.json_tree.specs.Order.{AreInOrder, StandsInOrder}
 use Rattle.json_patch.specs.Merge.{members_in, is_null, merge_patched}
+use Rattle.json_patch.specs.OperationList.{operations_data, SaysAll, IsFaultOf}
+use Rattle.json_patch.specs.Operations.{Operation}
+use Rattle.json_patch.specs.declared.operations.ops_fault.OpsFault.TheVariants.{BadOp}
 
 -- a null for an absent member changes nothing
 abbrev pub NullForAbsentChangesNothing : Type 0
@@ -39,3 +42,13 @@ abbrev pub DisjointPatchesCommute : Type 0
 DisjointPatchesCommute = (target : Data) (ps qs : Members) → AreInOrder (members_in target) → AreInOrder ps → AreInOrder qs
     → ((k : List ℕ) → (get_member k ps ≡ None) ⊎ (get_member k qs ≡ None))
     → merge_patched (merge_patched target (object ps)) (object qs) ≡ merge_patched (merge_patched target (object qs)) (object ps)
+
+-- the document of operations says these and no others, and is at no fault
+pub record ReadsBack (operations : List Operation) : Type 0 where
+  pub says : SaysAll (operations_data operations) operations
+  pub only : (others : List Operation) → SaysAll (operations_data operations) others → others ≡ operations
+  pub no_fault : (k : ℕ) → IsFaultOf (operations_data operations) (BadOp k) → ⊥
+
+-- what is written of operations reads back as these
+abbrev pub OperationsReadBack : Type 0
+OperationsReadBack = (operations : List Operation) → ReadsBack operations

@@ -1,6 +1,6 @@
-//! What holds of every merge patch (RFC 7396). Each law is the contract of a function that does nothing.
+//! What holds of every merge patch (RFC 7396), and of operations (RFC 6902). Each law is the contract of a function that does nothing.
 
-ghost use Rattle.json_patch.specs.Laws.{NullForAbsentChangesNothing, EmptyObjectChangesNothing, OtherValueReplaces, OrderStays, MergeIsByMember, SameValuesSameMembers, DisjointPatchesCommute};
+ghost use Rattle.json_patch.specs.Laws.{NullForAbsentChangesNothing, EmptyObjectChangesNothing, OtherValueReplaces, OperationsReadBack, OrderStays, MergeIsByMember, SameValuesSameMembers, DisjointPatchesCommute};
 
 /// A null for a member that isn't there changes nothing, nor does an empty object.
 pub fn no_change()
@@ -31,4 +31,9 @@ pub fn same_values_same_members()
 /// Patches that name no member in common may be merged in either order.
 pub fn disjoint_patches_commute()
     ensures { DisjointPatchesCommute }
+{}
+
+/// The document of operations reads back as these operations: reading it is either out of memory or gives them.
+pub fn operations_read_back()
+    ensures { OperationsReadBack }
 {}

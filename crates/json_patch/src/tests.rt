@@ -1,9 +1,12 @@
+mod operations;
+
 use crate::merge;
 use json_tree::{Tree, read, text};
 use std::alloc::{AllocError, Global};
 use std::test::Fail;
 
-/// The table of RFC 7396, appendix A: a document, a patch and the result, and after it the example of section 3.
+/// The table of RFC 7396, appendix A: a document, a patch and the result, and after it the example of section 3 and
+/// nulls inside a list.
 const EXAMPLES: &str = r#"{"a":"b"} | {"a":"c"} | {"a":"c"}
 {"a":"b"} | {"b":"c"} | {"a":"b","b":"c"}
 {"a":"b"} | {"a":null} | {}
@@ -19,7 +22,8 @@ const EXAMPLES: &str = r#"{"a":"b"} | {"a":"c"} | {"a":"c"}
 {"e":null} | {"a":1} | {"a":1,"e":null}
 [1,2] | {"a":"b","c":null} | {"a":"b"}
 {} | {"a":{"bb":{"ccc":null}}} | {"a":{"bb":{}}}
-{"title":"Goodbye!","author":{"givenName":"John","familyName":"Doe"},"tags":["example","sample"],"content":"This will be unchanged"} | {"title":"Hello!","phoneNumber":"+01-123-456-7890","author":{"familyName":null},"tags":["example"]} | {"author":{"givenName":"John"},"content":"This will be unchanged","phoneNumber":"+01-123-456-7890","tags":["example"],"title":"Hello!"}"#;
+{"title":"Goodbye!","author":{"givenName":"John","familyName":"Doe"},"tags":["example","sample"],"content":"This will be unchanged"} | {"title":"Hello!","phoneNumber":"+01-123-456-7890","author":{"familyName":null},"tags":["example"]} | {"author":{"givenName":"John"},"content":"This will be unchanged","phoneNumber":"+01-123-456-7890","tags":["example"],"title":"Hello!"}
+{} | {"a":[null,{"b":null}]} | {"a":[null,{"b":null}]}"#;
 
 fn tree_of(alloc: Global, given: &str) -> Result<Tree, AllocError> {
     read(alloc, given.as_bytes()).map_err(|_| AllocError)
@@ -36,31 +40,6 @@ fn examples_of_the_rfc_merge(rt: HostRuntime) -> Result<(), Fail> {
     for line in EXAMPLES.lines() {
         let (target, rest) = line.split_once(" | ").unwrap_or((line, ""));
         let (patch, expected) = rest.split_once(" | ").unwrap_or((rest, ""));
-        let found = merged(alloc, target, patch)?;
-        assert!(rt;
-            found.as_slice() == expected.as_bytes(),
-            "{target} by {patch}"
-        );
-    }
-    Ok(())
-}
-
-#[test]
-fn nulls_inside_a_list_stay(rt: HostRuntime) -> Result<(), Fail> {
-    let alloc = rt.alloc();
-    let cases = [
-        (
-            "{}",
-            r#"{"a":[null,{"b":null}]}"#,
-            r#"{"a":[null,{"b":null}]}"#,
-        ),
-        (r#"{"a":{"b":1}}"#, r#"{"a":{}}"#, r#"{"a":{"b":1}}"#),
-        (r#"{"a":1}"#, r#"{"a":{}}"#, r#"{"a":{}}"#),
-        (r#"{"a":1}"#, r#"{"b":null}"#, r#"{"a":1}"#),
-        ("7", "{}", "{}"),
-        ("null", "true", "true"),
-    ];
-    for (target, patch, expected) in cases {
         let found = merged(alloc, target, patch)?;
         assert!(rt;
             found.as_slice() == expected.as_bytes(),
