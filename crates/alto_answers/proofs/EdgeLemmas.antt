@@ -53,14 +53,14 @@ graph_some version book (resource.Net net) graph legal stands documents found =
     let is = chosen (is_declared (rows_of book) (resource.Net net)) graph (updates_graph book (resource.Net net)) (found ∙ found_map version book net stands) in
     let P : GraphData → Type 0 = λ g. TellsNumbers g book (resource.Net net) in
     (is.0, record { tells = subst P (sym is.1) (graph_tells book (resource.Net net) legal is.0); documents = documents })
-graph_some version book (resource.Prop net) graph legal stands documents found = absurd (false≢true documents)
+graph_some version book _ graph legal stands documents found = absurd (false≢true documents)
 
 -- and where it has none, the resource isn't declared
 pub graph_none : (version : Version) (book : Book) (of : Resource) → StandsFor version book
     → has_document of ≡ true → None ≡ graph_in version.graphs of → is_declared (rows_of book) of ≡ false
 graph_none version book (resource.Net net) stands documents found =
     left_out (is_declared (rows_of book) (resource.Net net)) (updates_graph book (resource.Net net)) (found ∙ found_map version book net stands)
-graph_none version book (resource.Prop net) stands documents found = absurd (false≢true documents)
+graph_none version book _ stands documents found = absurd (false≢true documents)
 
 -- the status that a graph tells is that of the book
 pub by_status : (graph : GraphData) (book : Book) (of : Resource) (i j : ℕ) (status : EdgeStatus) (answer : Answer) → IsGraphOf graph book of

@@ -7,6 +7,10 @@ use Rattle.alto_rows.specs.declared.resource.Resource.TheVariants as resource
 abbrev pub network_map_type : List ℕ
 network_map_type = codes "application/alto-networkmap+json"
 
+-- the media type of a cost map
+abbrev pub cost_map_type : List ℕ
+cost_map_type = codes "application/alto-costmap+json"
+
 -- the media type of a property map
 abbrev pub property_map_type : List ℕ
 property_map_type = codes "application/alto-propmap+json"
@@ -14,6 +18,7 @@ property_map_type = codes "application/alto-propmap+json"
 -- the media type of a resource's document
 abbrev pub media_type_of : Resource → List ℕ
 media_type_of (resource.Net net) = network_map_type
+media_type_of (resource.Cost net metric) = cost_map_type
 media_type_of (resource.Prop net) = property_map_type
 
 -- the media type of a merge patch

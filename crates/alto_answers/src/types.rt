@@ -7,6 +7,9 @@ use alto_rows::Resource;
 /// The media type of a network map (RFC 7285, section 11.2.1.1).
 pub(crate) const NETWORK_MAP: &str = "application/alto-networkmap+json";
 
+/// The media type of a cost map (RFC 7285, section 11.2.3.1).
+const COST_MAP: &str = "application/alto-costmap+json";
+
 /// The media type of a property map (RFC 9240, section 7.1).
 const PROPERTY_MAP: &str = "application/alto-propmap+json";
 
@@ -19,6 +22,7 @@ pub(crate) fn media_type(resource: &Resource) -> &'static str
 {
     match resource {
         Resource::Net(_) => NETWORK_MAP,
+        Resource::Cost(_, _) => COST_MAP,
         Resource::Prop(_) => PROPERTY_MAP,
     }
 }

@@ -1,7 +1,7 @@
 -- The batches between two places of a book, and what they bring a resource: pushes, rows and keys.
 use Rattle.std.proofs.Common.{◌≡◌, refl, ap, sym, ◌∙◌, arith, suc, zero}
 use Rattle.std.proofs.lemmas.Grind.{flat_map-append}
-use Rattle.std.proofs.lemmas.List.{append_assoc, length-append, take_all, take-append-drop, length-take-le}
+use Rattle.std.proofs.lemmas.List.{append_assoc, length-append, take_all, take-append-drop, length-take, length-take-le}
 use Rattle.std.proofs.Math.Seq.{take-append_seam, drop-append_seam}
 use Rattle.std.proofs.lemmas.List.Elements.{filter_map-append}
 use Rattle.std.proofs.lemmas.List.Folds.{list_any-append}
@@ -15,7 +15,7 @@ use Rattle.alto_rows.specs.declared.resource.Resource.{Resource}
 use Rattle.alto_rows.specs.Accepted.{Accepted}
 use Rattle.alto_rows.specs.Order.{key_cmp}
 use Rattle.alto_rows.specs.Rows.{Rows, after}
-use Rattle.alto_rows.specs.Versions.{version_of}
+use Rattle.alto_rows.specs.Versions.{is_declared, version_of}
 use Rattle.tips_graph.proofs.KeySetLemmas.{key_set_has, key_set-same}
 use Rattle.tips_graph.specs.Graph.{Push}
 use Rattle.tips_graph.specs.Keys.{key_set}
@@ -23,11 +23,11 @@ use Rattle.alto_book.specs.Book.{Book, state_at, rows_of, writes_in}
 use Rattle.alto_book.specs.Legal.{IsLegal}
 use Rattle.alto_book.specs.Numbers.{renews, touching, push_of, pushes_of}
 use Rattle.alto_book.proofs.ChangeLemmas.{has}
-use Rattle.alto_book.proofs.GivenLemmas.{touching-append}
+use Rattle.alto_book.proofs.GivenLemmas.{quiet_batch, touching-append}
 use Rattle.alto_book.proofs.OpeningLemmas.{version_of-opens}
-use Rattle.alto_book.proofs.PlaceLemmas.{version_of-next, quiet_at}
+use Rattle.alto_book.proofs.PlaceLemmas.{declared_versioned, version_of-next}
 use Rattle.alto_book.proofs.NumberLemmas.{version_of-later}
-use Rattle.alto_book.proofs.StateLemmas.{state_at-all}
+use Rattle.alto_book.proofs.StateLemmas.{good_state, state_at-all, state_at-next}
 
 -- ---- parts of lists
 
@@ -241,14 +241,24 @@ pub key_set-pushes : (book : Book) (of : Resource) (start : ℕ) (batches : List
 key_set-pushes book of start batches quiet =
     key_set-same (touching of (writes_in batches)) (keys_in (pushes_from book of start batches)) (λ at. has-pushes book of start batches at quiet)
 
--- once a resource has a version, each batch is such
-pub quiet_between : (book : Book) (of : Resource) (low high : ℕ) → IsLegal book → 1 ≤ version_of (state_at book low) of
-    → AllByRecursion (IsQuiet of) (batches_from book low high)
-quiet_between book of low high legal versioned = all_by_places (IsQuiet of) (batches_from book low high) at_place
+-- while a resource is declared, each batch is such
+pub quiet_declared : (book : Book) (of : Resource) (low high : ℕ) → IsLegal book
+    → ((m : ℕ) → low ≤ m → m < high → is_declared (state_at book (suc m)) of ≡ true) → AllByRecursion (IsQuiet of) (batches_from book low high)
+quiet_declared book of low high legal declared = all_by_places (IsQuiet of) (batches_from book low high) at_place
   where
     at_place : (k : ℕ) (batch : Accepted) → slice_get (batches_from book low high) k ≡ Some batch → IsQuiet of batch
     at_place k batch e r =
-        let there : slice_get book.batches (low + k) ≡ Some batch =
-        slice_get-take book.batches high (low + k) batch (sym (slice_get-drop (take high book.batches) low k) ∙ e) in
-        let upto : version_of (state_at book low) of ≤ version_of (state_at book (low + k)) of = version_of-later book low (low + k) of legal (omega arith) in
-        quiet_at book of (low + k) batch legal there (omega arith) r
+        let front : slice_get (take high book.batches) (low + k) ≡ Some batch = sym (slice_get-drop (take high book.batches) low k) ∙ e in
+        let there : slice_get book.batches (low + k) ≡ Some batch = slice_get-take book.batches high (low + k) batch front in
+        let within : low + k < length (take high book.batches) = slice_get_within (take high book.batches) (low + k) batch front in
+        let below : low + k < high = omega (arith, length-take high book.batches) in
+        quiet_batch (state_at book (low + k)) batch of (good_state book (low + k) legal) (legal.each (low + k) batch there)
+        (rw (state_at-next book (low + k) batch there) at (declared (low + k) (omega arith) below)) r
+
+-- so it is once a resource has a version
+pub quiet_between : (book : Book) (of : Resource) (low high : ℕ) → IsLegal book → 1 ≤ version_of (state_at book low) of
+    → AllByRecursion (IsQuiet of) (batches_from book low high)
+quiet_between book of low high legal versioned =
+    quiet_declared book of low high legal
+    (λ m le less. let upto : version_of (state_at book low) of ≤ version_of (state_at book (suc m)) of = version_of-later book low (suc m) of legal (omega arith) in
+    declared_versioned book (suc m) of legal (omega arith))

@@ -63,9 +63,7 @@ none_of_batch_epoch (write ∷ writes) all = (by write.key all.0.0, none_of_batc
     by : (at : Key) → IsOfBatch at → is_eq (key_cmp key.Epoch at) ≡ false
     by key.Epoch h = absurd h
     by key.Window h = absurd h
-    by (key.Net net) h = refl
-    by (key.Pid net pid) h = refl
-    by (key.Seq of) h = refl
+    by _ h = refl
 
 none_of_batch_window : (writes : List Write) → AllByRecursion (λ write. IsOfBatch write.key × IfSome write.value (Fits write.key)) writes → NoneWrites key.Window writes
 unfolding key_cmp
@@ -75,9 +73,7 @@ none_of_batch_window (write ∷ writes) all = (by write.key all.0.0, none_of_bat
     by : (at : Key) → IsOfBatch at → is_eq (key_cmp key.Window at) ≡ false
     by key.Epoch h = absurd h
     by key.Window h = absurd h
-    by (key.Net net) h = refl
-    by (key.Pid net pid) h = refl
-    by (key.Seq of) h = refl
+    by _ h = refl
 
 -- a key that batches don't write keeps its value
 kept : (at : Key) → ((writes : List Write) → AllByRecursion (λ write. IsOfBatch write.key × IfSome write.value (Fits write.key)) writes → NoneWrites at writes)

@@ -1,11 +1,10 @@
--- What the writes of edits keep, once no rule is broken: sound rows, what is declared, and a touch of what is newly declared.
-use Rattle.std.proofs.Common.{◌≡◌, refl, sym, ◌∙◌, inl, inr}
-use Rattle.std.proofs.lemmas.Bool.{or_cases, or_left, or_right, both_ways}
-use Rattle.std.proofs.lemmas.Cmp.{nat_list_eq_equiv}
-use Rattle.std.specs.Prelude.{Bool, true, false, not, ◌||◌, ◌+◌, ◌⊎◌, ℕ, List, [], ◌∷◌, ◌++◌, IfSome, Option, Some, None, Result, Ok, Err, if◌then◌else◌}
+-- What the writes of edits keep, once no rule is broken: sound rows, and what is declared.
+use Rattle.std.proofs.Common.{◌≡◌, refl, ap}
+use Rattle.std.proofs.lemmas.List.Elements.{All-from_recursion}
+use Rattle.std.specs.Prelude.{Bool, true, false, not, ◌||◌, ◌+◌, ℕ, List, [], ◌∷◌, ◌++◌, IfSome, is_some, Option, Some, None, Result, Ok, Err, if◌then◌else◌}
 use Rattle.std.specs.List.{AllByRecursion}
-use Rattle.std.specs.Ordering.{is_eq}
-use Rattle.alto_rows.proofs.WriteLemmas.{after-append}
+use Rattle.alto_rows.proofs.TouchesLemmas.{none_part}
+use Rattle.alto_rows.proofs.WriteLemmas.{after-append, value_of-after-none}
 use Rattle.alto_rows.specs.declared.key.Key.{Key}
 use Rattle.alto_rows.specs.declared.key.Key.TheVariants as key
 use Rattle.alto_rows.specs.declared.resource.Resource.{Resource}
@@ -13,10 +12,10 @@ use Rattle.alto_rows.specs.declared.resource.Resource.TheVariants as resource
 use Rattle.alto_rows.specs.declared.value.Value.TheVariants as value
 use Rattle.alto_rows.specs.declared.write.Write.{Write}
 use Rattle.alto_rows.specs.Good.{Fits}
-use Rattle.alto_rows.specs.Order.{key_cmp}
-use Rattle.alto_rows.specs.Rows.{Rows, has_row, with_value, after}
-use Rattle.alto_rows.specs.Touches.{touches}
-use Rattle.alto_rows.specs.Versions.{is_declared}
+use Rattle.alto_rows.specs.Order.{net_of}
+use Rattle.alto_rows.specs.Rows.{Rows, AreSorted, has_row, after}
+use Rattle.alto_rows.specs.Touches.{part_of}
+use Rattle.alto_rows.specs.Versions.{declaring_key, is_declared}
 use Rattle.alto_rules.specs.declared.edit.Edit.{Edit}
 use Rattle.alto_rules.specs.declared.edit.Edit.TheVariants as edit
 use Rattle.alto_rules.specs.declared.rule.Rule.{Rule}
@@ -24,29 +23,20 @@ use Rattle.alto_rules.specs.declared.rule.Rule.TheVariants as rule
 use Rattle.alto_rules.specs.declared.rule.CompileFault.{CompileFault}
 use Rattle.alto_rules.specs.Compiled.{before, unless_broken, edits_writes}
 use Rattle.alto_rules.specs.Rules.{IsEdit, broken_rule, declaring, writes_of}
-use Rattle.alto_rules.specs.Versions.{is_touched}
+use Rattle.alto_rules.specs.Versions.{is_written, is_touched}
 use Rattle.alto_book.specs.Legal.{IsOfEdit}
-use Rattle.alto_book.proofs.SameLemmas.{one_key}
-use Rattle.alto_rules.proofs.DraftLemmas.{is_touched-append}
-use Rattle.alto_book.proofs.SoundLemmas.{AreSound, HasItsNames, has_row-put, has_row-kept, sound_put}
+use Rattle.alto_book.proofs.SoundLemmas.{AreSound, HasItsNames, KeepsOnePid, has_row-kept, sound_put}
 
--- the writes are of edits and leave sound rows, where what was declared still is, and what is newly declared is touched
+-- the writes are of edits and leave sound rows, where what was declared still is
 pub record Keeps (rows : Rows) (writes : List Write) : Type 0 where
   pub sound : AreSound (after rows writes)
   pub of_edits : AllByRecursion (λ write. IsOfEdit write.key) writes
   pub fit : AllByRecursion (λ write. IfSome write.value (Fits write.key)) writes
   pub declared : (of : Resource) → is_declared rows of ≡ true → is_declared (after rows writes) of ≡ true
-  pub touched : (of : Resource) → is_declared rows of ≡ false → is_declared (after rows writes) of ≡ true → is_touched writes of ≡ true
 
 -- no writes keep all
 pub keeps_none : (rows : Rows) → AreSound rows → Keeps rows []
-keeps_none rows sound = record {
-  sound = sound;
-  of_edits = tt;
-  fit = tt;
-  declared = λ of h. h;
-  touched = λ of out now. absurd (both_ways (is_declared rows of) out now);
-}
+keeps_none rows sound = record { sound = sound; of_edits = tt; fit = tt; declared = λ of h. h }
 
 all_append : (P : Write → Type 0) (first second : List Write) → AllByRecursion P first → AllByRecursion P second → AllByRecursion P (first ++ second)
 all_append P [] second a b = b
@@ -59,58 +49,56 @@ keeps_then rows first second a b = record {
   of_edits = all_append (λ write. IsOfEdit write.key) first second a.of_edits b.of_edits;
   fit = all_append (λ write. IfSome write.value (Fits write.key)) first second a.fit b.fit;
   declared = λ of h. rw (after-append rows first second) (b.declared of (a.declared of h));
-  touched = λ of out now. rw (is_touched-append first second of)
-      (by of out (rw (after-append rows first second) at now) (is_declared (after rows first) of) refl);
 }
+
+-- ---- what is newly declared
+
+-- the row that declares a resource is part of a document that the resource depends on
+abbrev declared_by : Resource → Resource
+declared_by (resource.Cost net metric) = resource.Cost net metric
+declared_by of = resource.Net (net_of of)
+
+part_declaring : (of : Resource) → part_of (declaring_key of) ≡ Some (declared_by of)
+part_declaring (resource.Net net) = refl
+part_declaring (resource.Cost net metric) = refl
+part_declaring (resource.Prop net) = refl
+
+-- of two tests that both fail each does
+pub either_false : (a b : Bool) → (a || b) ≡ false → (a ≡ false) × (b ≡ false)
+either_false true b h = cc
+either_false false b h = (refl, h)
+
+-- writes that don't touch a resource leave whether it is declared
+pub is_declared-untouched : (rows : Rows) (writes : List Write) (of : Resource) → AreSorted rows → is_touched writes of ≡ false
+    → is_declared (after rows writes) of ≡ is_declared rows of
+is_declared-untouched rows writes of s h =
+    ap is_some (value_of-after-none rows writes (declaring_key of) s (none_part (declared_by of) (declaring_key of) writes (part_declaring of) (unwritten of h)))
   where
-    by : (of : Resource) → is_declared rows of ≡ false → is_declared (after (after rows first) second) of ≡ true
-        → (between : Bool) → is_declared (after rows first) of ≡ between → (is_touched first of || is_touched second of) ≡ true
-    by of out now true e = or_left (is_touched first of) (is_touched second of) (a.touched of out e)
-    by of out now false e = or_right (is_touched first of) (is_touched second of) (b.touched of e now)
+    unwritten : (one : Resource) → is_touched writes one ≡ false → is_written writes (declared_by one) ≡ false
+    unwritten (resource.Cost net metric) g = (either_false (is_written writes (resource.Cost net metric)) (is_written writes (resource.Net net)) g).0
+    unwritten (resource.Net net) g = (either_false (is_written writes (resource.Net net)) (is_written writes (resource.Net net)) g).1
+    unwritten (resource.Prop net) g = (either_false (is_written writes (resource.Prop net)) (is_written writes (resource.Net net)) g).1
 
 -- ---- one edit
 
--- the row of a network touches its map
-touches_own : (net : List ℕ) (at : Key) → at ≡ key.Net net → touches (resource.Net net) at ≡ true
-touches_own net at e = rw e (nat_list_eq_equiv.refl net)
-
 -- a declaring write of a row that fits and whose names are declared keeps all
-pub keeps_declaring : (rows : Rows) (at : Key) → AreSound rows → IsOfEdit at → Fits at value.Unit → HasItsNames rows at → Keeps rows (declaring at ∷ [])
-keeps_declaring rows at sound of_edit fits names = record {
-  sound = sound_put rows at value.Unit sound fits names;
+pub keeps_declaring : (rows : Rows) (at : Key) → AreSound rows → IsOfEdit at → Fits at value.Unit → HasItsNames rows at value.Unit → KeepsOnePid rows at
+    → Keeps rows (declaring at ∷ [])
+keeps_declaring rows at sound of_edit fits names one = record {
+  sound = sound_put rows at value.Unit sound fits names one;
   of_edits = (of_edit, tt);
   fit = (fits, tt);
-  declared = λ of h. declared of h;
-  touched = λ of out now. touched of out now;
+  declared = λ of h. has_row-kept rows at value.Unit (declaring_key of) h;
 }
-  where
-    declared : (of : Resource) → is_declared rows of ≡ true → is_declared (with_value rows at (Some value.Unit)) of ≡ true
-    declared (resource.Net net) h = has_row-kept rows at value.Unit (key.Net net) h
-    declared (resource.Prop net) h = has_row-kept rows at value.Unit (key.Net net) h
-
-    own : (net : List ℕ) → has_row rows (key.Net net) ≡ false → has_row (with_value rows at (Some value.Unit)) (key.Net net) ≡ true
-        → touches (resource.Net net) at ≡ true
-    own net out now = by (or_cases (is_eq (key_cmp (key.Net net) at)) (has_row rows (key.Net net)) (sym (has_row-put rows at value.Unit (key.Net net)) ∙ now))
-      where
-        by : (is_eq (key_cmp (key.Net net) at) ≡ true) ⊎ (has_row rows (key.Net net) ≡ true) → touches (resource.Net net) at ≡ true
-        by (inl h) = touches_own net at (sym (one_key (key.Net net) at h))
-        by (inr h) = absurd (both_ways (has_row rows (key.Net net)) out h)
-
-    touched : (of : Resource) → is_declared rows of ≡ false → is_declared (with_value rows at (Some value.Unit)) of ≡ true
-        → is_touched (declaring at ∷ []) of ≡ true
-    touched (resource.Net net) out now = or_left (touches (resource.Net net) at) false (own net out now)
-    touched (resource.Prop net) out now =
-        or_right (touches (resource.Prop net) at || false) (touches (resource.Net net) at || false) (or_left (touches (resource.Net net) at) false (own net out now))
 
 -- an edit that breaks no rule keeps all
 pub keeps_edit : (rows : Rows) (edit : Edit) → AreSound rows → IsEdit edit → broken_rule rows edit ≡ None → Keeps rows (writes_of rows edit)
-keeps_edit rows (edit.NetAdd net) sound is broken = keeps_declaring rows (key.Net net) sound is is (λ other pid e. cc)
+keeps_edit rows (edit.NetAdd net) sound is broken =
+    keeps_declaring rows (key.Net net) sound is (is, tt) (All-from_recursion (λ (need : Key). has_row rows need ≡ true) [] tt) (λ n first second prefix e h. cc)
 keeps_edit rows (edit.PidAdd net pid) sound is broken =
-    keeps_declaring rows (key.Pid net pid) sound is is (λ other p e. rw (← net_is other p e) (declared (has_row rows (key.Net net)) broken))
+    keeps_declaring rows (key.Pid net pid) sound is (is, tt)
+    (All-from_recursion (λ (need : Key). has_row rows need ≡ true) (key.Net net ∷ []) (declared (has_row rows (key.Net net)) broken, tt)) (λ n first second prefix e h. cc)
   where
-    net_is : (other p : List ℕ) → key.Pid net pid ≡ key.Pid other p → net ≡ other
-    net_is other p e = cc
-
     declared : (b : Bool) → (if not b then Some rule.G3 else if has_row rows (key.Pid net pid) then Some rule.G4 else None) ≡ None → b ≡ true
     declared true h = refl
     declared false h = cc

@@ -7,19 +7,18 @@ use Rattle.std.proofs.lemmas.Option.{slice_get_within}
 use Rattle.std.specs.Ordering.{is_eq}
 use Rattle.std.specs.Prelude.{true, ◌&&◌, ℕ, ◌<◌, List, [], ◌∷◌, ◌++◌, length, map, filter, All, IfSome, Some, None, slice_get}
 use Rattle.std.specs.List.{AllByRecursion}
-use Rattle.alto_names.specs.Name.{IsNetName}
 use Rattle.alto_rows.proofs.OrderLemmas.{resource_cmp_total}
 use Rattle.alto_rows.specs.Accepted.{Accepted}
-use Rattle.alto_rows.specs.Good.{Fits, AreGood}
-use Rattle.alto_rows.specs.Order.{resource_cmp, net_of}
+use Rattle.alto_rows.specs.Good.{IsResource, Fits, AreGood}
+use Rattle.alto_rows.specs.Order.{resource_cmp}
 use Rattle.alto_rows.specs.Rows.{Rows, after}
-use Rattle.alto_rows.specs.Versions.{is_declared}
+use Rattle.alto_rows.specs.Versions.{is_declared, resources_of}
 use Rattle.alto_rows.specs.declared.key.Key.{Key}
 use Rattle.alto_rows.specs.declared.key.Key.TheVariants as key
 use Rattle.alto_rows.specs.declared.resource.Resource.{Resource}
 use Rattle.alto_rows.specs.declared.write.Write.{Write}
-use Rattle.alto_rules.proofs.ResourceLemmas.{resources_found}
-use Rattle.alto_rules.specs.Versions.{resources_of, is_touched, next_version, sequence_writes}
+use Rattle.alto_rows.proofs.ResourceLemmas.{resources_found}
+use Rattle.alto_rules.specs.Versions.{is_touched, next_version, sequence_writes}
 use Rattle.alto_book.proofs.BatchLemmas.{HaveNextVersions, named, is_declared-batch}
 use Rattle.alto_book.proofs.SameLemmas.{stands, stands-filter}
 use Rattle.alto_book.proofs.SoundLemmas.{sound_of_good}
@@ -32,14 +31,14 @@ use Rattle.alto_book.specs.Legal.{IsOfEdit, Follows, IsLegal}
 abbrev IsStorable : Write → Type 0
 IsStorable write = IsOfBatch write.key × IfSome write.value (Fits write.key)
 
--- the version rows of resources whose networks have names of their alphabet
-versions_storable : (rows : Rows) (ofs : List Resource) → ((of : Resource) → stands of ofs ≡ true → IsNetName (net_of of)) → HaveNextVersions rows
+-- the version rows of resources whose names are of their alphabets
+versions_storable : (rows : Rows) (ofs : List Resource) → ((of : Resource) → stands of ofs ≡ true → IsResource of) → HaveNextVersions rows
     → AllByRecursion IsStorable (map (next_version rows) ofs)
 versions_storable rows [] names next = tt
 versions_storable rows (one ∷ ofs) names next =
-    ((name, (name, omega arith, next one)), versions_storable rows ofs (λ of h. names of (or_right (is_eq (resource_cmp of one)) (stands of ofs) h)) next)
+    ((name, (name, (omega arith, next one))), versions_storable rows ofs (λ of h. names of (or_right (is_eq (resource_cmp of one)) (stands of ofs) h)) next)
   where
-    name : IsNetName (net_of one)
+    name : IsResource one
     name = names one (or_left (is_eq (resource_cmp one one)) (stands one ofs) (ap is_eq (tied_itself resource_cmp_total one)))
 
 -- a batch that follows good rows
@@ -56,13 +55,10 @@ follows_storable rows batch good follows next =
     ofs = filter (is_touched edits) (resources_of (after rows edits))
 
     of_edit : (at : Key) → IsOfEdit at → IsOfBatch at
-    of_edit key.Epoch h = h
-    of_edit key.Window h = h
-    of_edit (key.Net net) h = h
-    of_edit (key.Pid net pid) h = h
     of_edit (key.Seq of) h = absurd h
+    of_edit _ h = h
 
-    name : (of : Resource) → stands of ofs ≡ true → IsNetName (net_of of)
+    name : (of : Resource) → stands of ofs ≡ true → IsResource of
     name of h =
         let both : (is_touched edits of && stands of (resources_of (after rows edits))) ≡ true =
         sym (stands-filter (is_touched edits) of (resources_of (after rows edits))) ∙ h in

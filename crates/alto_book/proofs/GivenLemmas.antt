@@ -1,6 +1,6 @@
 -- What a batch that follows rows gives a resource: its next number, where the edits touch it and it is declared; else nothing that touches it.
 use Rattle.std.proofs.Common.{◌≡◌, refl, ap, sym, ◌∙◌}
-use Rattle.std.proofs.lemmas.Bool.{both_ways}
+use Rattle.std.proofs.lemmas.Bool.{and_parts, both_ways}
 use Rattle.std.proofs.lemmas.List.{map-append}
 use Rattle.std.proofs.lemmas.List.Elements.{filter-append, recursion_from_All}
 use Rattle.std.proofs.lemmas.List.Folds.{list_any-append}
@@ -17,16 +17,17 @@ use Rattle.alto_rows.specs.declared.value.Value.{Value}
 use Rattle.alto_rows.specs.declared.write.Write.{Write}
 use Rattle.alto_rows.proofs.WriteLemmas.{NoneWrites}
 use Rattle.alto_rows.specs.Accepted.{Accepted}
-use Rattle.alto_rows.specs.Order.{key_cmp, resource_cmp, same_name}
+use Rattle.alto_rows.specs.Order.{key_cmp, resource_cmp, net_of, same_name}
 use Rattle.alto_rows.specs.Rows.{Rows, AreSorted, value_of, after}
 use Rattle.alto_rows.specs.Touches.{touches}
-use Rattle.alto_rows.specs.Versions.{number_in, is_declared, version_of}
-use Rattle.alto_rules.specs.Versions.{resources_of, is_written, is_touched, next_version, sequence_writes}
-use Rattle.alto_rules.proofs.ResourceLemmas.{resources_found}
+use Rattle.alto_rows.specs.Versions.{number_in, is_declared, resources_of, version_of}
+use Rattle.alto_rules.specs.Versions.{is_written, is_touched, next_version, sequence_writes}
+use Rattle.alto_rows.proofs.ResourceLemmas.{resources_found}
 use Rattle.alto_rows.specs.Good.{AreGood}
 use Rattle.alto_book.specs.Legal.{IsOfEdit, Follows}
 use Rattle.alto_book.specs.Numbers.{is_number, gives, renews, touching}
 use Rattle.alto_book.proofs.BatchLemmas.{is_declared-batch}
+use Rattle.alto_book.proofs.EditLemmas.{either_false, is_declared-untouched}
 use Rattle.alto_book.proofs.SameLemmas.{one_resource, stands, stands-filter}
 use Rattle.alto_book.proofs.SequenceLemmas.{next_of, none_edits, value_of-batch}
 
@@ -113,6 +114,14 @@ version_of-renewed rows batch of s follows =
     by true = refl
     by false = refl
 
+-- a resource that a batch gives a number is declared after it
+pub declared_renewed : (rows : Rows) (batch : Accepted) (of : Resource) → AreGood rows → Follows rows batch → renews of batch ≡ true
+    → is_declared (after rows batch.writes) of ≡ true
+declared_renewed rows batch of good follows h =
+    let both : (is_touched follows.edits of && is_declared (after rows follows.edits) of) ≡ true = sym (renews-batch rows batch of follows) ∙ h in
+    ap (λ (writes : List Write). is_declared (after rows writes) of) follows.whole
+    ∙ (is_declared-batch rows follows.edits of good ∙ (and_parts (is_touched follows.edits of) (is_declared (after rows follows.edits) of) both).1)
+
 -- ---- what a batch that doesn't touch a resource writes
 
 -- writes none of which touch a resource have no keys that do
@@ -125,34 +134,23 @@ none_touching of (write ∷ writes) h = by (λ g. none_touching of writes g) (to
     by below true e g = cc
     by below false e g = rw e (below g)
 
-either_false : (a b : Bool) → (a || b) ≡ false → (a ≡ false) × (b ≡ false)
-either_false true b h = cc
-either_false false b h = (refl, h)
-
 -- edits that don't touch a resource don't write it
 unwritten : (edits : List Write) (of : Resource) → is_touched edits of ≡ false → is_written edits of ≡ false
-unwritten edits (resource.Net net) h = h
-unwritten edits (resource.Prop net) h = (either_false (is_written edits (resource.Prop net)) (is_written edits (resource.Net net)) h).0
+unwritten edits of h = (either_false (is_written edits of) (is_written edits (resource.Net (net_of of))) h).0
 
 -- nor is the version of a resource that they touch of it
 other_version : (edits : List Write) (of one : Resource) → is_touched edits of ≡ false → is_touched edits one ≡ true → touches of (key.Seq one) ≡ false
-other_version edits (resource.Net net) (resource.Net other) h g = by (same_name net other) refl
+other_version edits of (resource.Net other) h g = by (same_name (net_of of) other) refl
   where
-    by : (b : Bool) → same_name net other ≡ b → same_name net other ≡ false
+    by : (b : Bool) → same_name (net_of of) other ≡ b → same_name (net_of of) other ≡ false
     by true e =
-        let same : net ≡ other = same_text net other (sym e) in
-        absurd (both_ways (is_written edits (resource.Net other)) (rw same at h) g)
+        let same : net_of of ≡ other = same_text (net_of of) other (sym e) in
+        let none : is_written edits (resource.Net (net_of of)) ≡ false = (either_false (is_written edits of) (is_written edits (resource.Net (net_of of))) h).1 in
+        let here : is_written edits (resource.Net other) ≡ false = rw same at none in
+        let never : is_touched edits (resource.Net other) ≡ false = rw here refl in
+        absurd (both_ways (is_touched edits (resource.Net other)) never g)
     by false e = e
-other_version edits (resource.Net net) (resource.Prop other) h g = refl
-other_version edits (resource.Prop net) (resource.Net other) h g = by (same_name net other) refl
-  where
-    by : (b : Bool) → same_name net other ≡ b → same_name net other ≡ false
-    by true e =
-        let same : net ≡ other = same_text net other (sym e) in
-        let none : is_written edits (resource.Net net) ≡ false = (either_false (is_written edits (resource.Prop net)) (is_written edits (resource.Net net)) h).1 in
-        absurd (both_ways (is_written edits (resource.Net other)) (rw same at none) g)
-    by false e = e
-other_version edits (resource.Prop net) (resource.Prop other) h g = refl
+other_version edits of _ h g = refl
 
 -- so no version row of a batch touches a resource that its edits don't
 versions_untouched : (rows : Rows) (edits : List Write) (of : Resource) (ofs : List Resource) → is_touched edits of ≡ false
@@ -179,10 +177,10 @@ untouched_batch rows batch of follows h =
     ∙ (touching-append of follows.edits (sequence_writes rows follows.edits)
     ∙ rw (none_touching of follows.edits (unwritten follows.edits of h)) (versions_untouched rows follows.edits of (resources_of (after rows follows.edits)) h))
 
--- a batch that gives a declared resource no number writes no key that touches it
-pub quiet_batch : (rows : Rows) (batch : Accepted) (of : Resource) → AreGood rows → Follows rows batch → is_declared (after rows batch.writes) of ≡ true
-    → renews of batch ≡ false → touching of batch.writes ≡ []
-quiet_batch rows batch of good follows declared h = untouched_batch rows batch of follows (by (is_touched follows.edits of) refl)
+-- the edits of a batch that gives a declared resource no number don't touch it
+untouched_quiet : (rows : Rows) (batch : Accepted) (of : Resource) → AreGood rows → (follows : Follows rows batch) → is_declared (after rows batch.writes) of ≡ true
+    → renews of batch ≡ false → is_touched follows.edits of ≡ false
+untouched_quiet rows batch of good follows declared h = by (is_touched follows.edits of) refl
   where
     stays : is_declared (after rows follows.edits) of ≡ true
     stays = sym (is_declared-batch rows follows.edits of good) ∙ (ap (λ (writes : List Write). is_declared (after rows writes) of) (sym follows.whole) ∙ declared)
@@ -192,3 +190,15 @@ quiet_batch rows batch of good follows declared h = untouched_batch rows batch o
         let given : renews of batch ≡ true = renews-batch rows batch of follows ∙ rw (e, stays) refl in
         absurd (both_ways (renews of batch) h given)
     by false e = e
+
+-- so the batch writes no key that touches it
+pub quiet_batch : (rows : Rows) (batch : Accepted) (of : Resource) → AreGood rows → Follows rows batch → is_declared (after rows batch.writes) of ≡ true
+    → renews of batch ≡ false → touching of batch.writes ≡ []
+quiet_batch rows batch of good follows declared h = untouched_batch rows batch of follows (untouched_quiet rows batch of good follows declared h)
+
+-- and the resource was declared before
+pub declared_quiet : (rows : Rows) (batch : Accepted) (of : Resource) → AreGood rows → Follows rows batch → is_declared (after rows batch.writes) of ≡ true
+    → renews of batch ≡ false → is_declared rows of ≡ true
+declared_quiet rows batch of good follows declared h =
+    sym (is_declared-untouched rows follows.edits of good.sorted (untouched_quiet rows batch of good follows declared h))
+    ∙ (sym (is_declared-batch rows follows.edits of good) ∙ (ap (λ (writes : List Write). is_declared (after rows writes) of) (sym follows.whole) ∙ declared))

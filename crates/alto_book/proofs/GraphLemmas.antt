@@ -1,14 +1,12 @@
 -- The updates graph of a resource in a legal book with one batch more, and what it tells.
-use Rattle.std.proofs.Common.{◌≡◌, refl, ap, sym, ◌∙◌, arith, suc}
+use Rattle.std.proofs.Common.{◌≡◌, refl, ap, sym, ◌∙◌, arith, suc, zero}
+use Rattle.std.proofs.lemmas.Bool.{both_ways}
 use Rattle.std.proofs.lemmas.List.{append-nil, length-append}
-use Rattle.std.specs.Prelude.{ℕ, ◌+◌, ◌≤◌, Bool, true, false, cond, List, [], ◌∷◌, ◌++◌, length, Option, Some, None, is_some, slice_get}
-use Rattle.alto_rows.specs.declared.key.Key.TheVariants as key
+use Rattle.std.specs.Prelude.{ℕ, ◌+◌, ◌≤◌, Bool, true, false, cond, List, [], ◌∷◌, ◌++◌, length, Some, slice_get}
 use Rattle.alto_rows.specs.declared.resource.Resource.{Resource}
-use Rattle.alto_rows.specs.declared.value.Value.{Value}
 use Rattle.alto_rows.specs.Accepted.{Accepted}
-use Rattle.alto_rows.specs.Good.{AreGood}
-use Rattle.alto_rows.specs.Rows.{Rows, value_of}
-use Rattle.alto_rows.specs.Versions.{number_in, is_declared, window_of, version_of}
+use Rattle.alto_rows.specs.Rows.{Rows}
+use Rattle.alto_rows.specs.Versions.{is_declared, window_of, version_of}
 use Rattle.tips_graph.proofs.GraphLaws.{one_push_more}
 use Rattle.tips_graph.specs.Graph.{Push, graph_of, with_push}
 use Rattle.tips_graph.specs.Keys.{key_set}
@@ -17,8 +15,8 @@ use Rattle.alto_book.specs.Legal.{IsLegal}
 use Rattle.alto_book.specs.Numbers.{renews, touching, pushes_of, updates_graph}
 use Rattle.alto_book.proofs.BetweenLemmas.{pushes_from, pushes_from-append, one_push, no_push, length-pushes_of}
 use Rattle.alto_book.proofs.GrownLemmas.{grown, state_at-grown}
-use Rattle.alto_book.proofs.PlaceLemmas.{version_of-next}
-use Rattle.alto_book.proofs.StateLemmas.{state_at-all, good_rows}
+use Rattle.alto_book.proofs.PlaceLemmas.{declared_versioned, version_of-next}
+use Rattle.alto_book.proofs.StateLemmas.{state_at-all}
 use Rattle.alto_book.proofs.StayLemmas.{window_of-extended}
 
 -- ---- one batch more
@@ -109,12 +107,15 @@ pub last-updates_graph : (book : Book) (of : Resource) → IsLegal book → (upd
 last-updates_graph = length-pushes_of
 
 -- a resource that isn't declared has no version
-unversioned : (rows : Rows) (of : Resource) → AreGood rows → is_declared rows of ≡ false → version_of rows of ≡ 0
-unversioned rows of good h = by (value_of rows (key.Seq of)) (good.versions of ∙ h)
+unversioned : (book : Book) (of : Resource) → IsLegal book → is_declared (rows_of book) of ≡ false → version_of (rows_of book) of ≡ 0
+unversioned book of legal h = by (version_of (rows_of book) of) refl
   where
-    by : (o : Option Value) → is_some o ≡ false → number_in o ≡ 0
-    by None e = refl
-    by (Some value) e = cc
+    declared : 1 ≤ version_of (rows_of book) of → is_declared (rows_of book) of ≡ true
+    declared some = rw (state_at-all book) at (declared_versioned book (length book.batches) of legal (rw (state_at-all book) some))
+
+    by : (v : ℕ) → version_of (rows_of book) of ≡ v → version_of (rows_of book) of ≡ 0
+    by zero e = e
+    by (suc v) e = absurd (both_ways (is_declared (rows_of book) of) h (declared (omega arith)))
 
 none : (pushes : List Push) → length pushes ≡ 0 → pushes ≡ []
 none [] h = refl
@@ -125,4 +126,4 @@ pub updates_graph-undeclared : (book : Book) (of : Resource) → IsLegal book �
     → updates_graph book of ≡ graph_of (window_of (rows_of book)) []
 updates_graph-undeclared book of legal h =
     ap (graph_of (window_of (rows_of book)))
-    (none (pushes_of book of) (length-pushes_of book of legal ∙ unversioned (rows_of book) of (good_rows book legal) h))
+    (none (pushes_of book of) (length-pushes_of book of legal ∙ unversioned book of legal h))

@@ -26,10 +26,11 @@ use Rattle.edge_patch.specs.Differ.{DifferBy}
 use Rattle.alto_book.specs.NumberLaws.{TouchedMapsGetNumbers, UntouchedMapStays, LastNumberIsNow, NumbersDifferByKeys}
 use Rattle.alto_book.specs.Numbers.{gives, touching, rows_at, batches_between, keys_between, pushes_of}
 use Rattle.alto_book.proofs.BatchLemmas.{is_declared-batch}
-use Rattle.alto_book.proofs.BetweenLemmas.{batches_from, state_at-between, pushes_between, pushes_from, keys_in, has-pushes, quiet_between}
+use Rattle.alto_book.proofs.BetweenLemmas.{batches_from, state_at-between, pushes_between, pushes_from, keys_in, has-pushes, quiet_declared}
 use Rattle.alto_book.proofs.ChangeLemmas.{has, none_writes, epoch_stays}
-use Rattle.alto_book.proofs.GivenLemmas.{raised, gives-batch, renews-batch, version_of-renewed, none_touching, untouched_batch}
-use Rattle.alto_book.proofs.PlaceLemmas.{IsGivenAt, HasPlace, equal, rows_at-given, version_of-given, declared_versioned}
+use Rattle.alto_book.proofs.GivenLemmas.{declared_renewed, raised, gives-batch, renews-batch, version_of-renewed, none_touching, untouched_batch}
+use Rattle.alto_book.proofs.PlaceLemmas.{IsGivenAt, HasPlace, declared_since, equal, rows_at-given, version_of-given}
+use Rattle.alto_book.proofs.NumberLemmas.{version_of-later}
 use Rattle.alto_book.proofs.PushLemmas.{place_now, given_in_order, batches_between-given}
 use Rattle.alto_book.proofs.StateLemmas.{state_at-next, state_at-all, good_state, good_rows}
 
@@ -52,9 +53,10 @@ pub numbers_differ : NumbersDifferByKeys
 numbers_differ book of i j legal low le high =
     by (place_now book of i legal low (omega arith)) (place_now book of j legal (omega arith) high)
   where
-    declared : (number place : ℕ) (batch : Accepted) → IsGivenAt book of number place batch → 1 ≤ number → is_declared (state_at book (suc place)) of ≡ true
-    declared number place batch given one =
-        declared_versioned (state_at book (suc place)) of (good_state book (suc place) legal) (rw (version_of-given book of number place batch legal given) one)
+    declared : (number place : ℕ) (batch : Accepted) → IsGivenAt book of number place batch → is_declared (state_at book (suc place)) of ≡ true
+    declared number place batch given =
+        ap (λ (rows : Rows). is_declared rows of) (state_at-next book place batch given.there)
+        ∙ declared_renewed (state_at book place) batch of (good_state book place legal) (legal.each place batch given.there) given.renewed
 
     at_places : (m n : ℕ) (first last : Accepted) → IsGivenAt book of i m first → IsGivenAt book of j n last → m ≤ n
         → DifferBy (keys_between book of i j) (state_at book (suc m)) (state_at book (suc n)) of
@@ -63,8 +65,8 @@ numbers_differ book of i j legal low le high =
       same = λ at t none. same_between book of (suc m) (suc n) at legal (omega arith) t
           (ap (λ (batches : List Accepted). has at (touching of (writes_in batches))) (sym (batches_between-given book of i j m n first last legal from upto))
           ∙ (sym (key_set_has (touching of (writes_in (batches_between book of i j))) at) ∙ none));
-      before = declared i m first from low;
-      behind = declared j n last upto (omega arith);
+      before = declared i m first from;
+      behind = declared j n last upto;
     }
 
     by : HasPlace book of i (length book.batches) → HasPlace book of j (length book.batches) → DifferBy (keys_between book of i j) (rows_at book of i) (rows_at book of j) of
@@ -91,22 +93,27 @@ untouched_map book net n batch legal there h =
 
 -- a declared resource has a version
 pub versioned : (rows : Rows) (of : Resource) → AreGood rows → is_declared rows of ≡ true → 1 ≤ version_of rows of
-versioned rows of good h = by (value_of rows (key.Seq of)) (good.fit (key.Seq of)) (good.versions of ∙ h)
+versioned rows of good h = by (value_of rows (key.Seq of)) (good.fit (key.Seq of)) (good.versions of h)
   where
     by : (o : Option Value) → IfSome o (Fits (key.Seq of)) → is_some o ≡ true → 1 ≤ number_in o
     by None fit some = cc
-    by (Some value.Unit) fit some = absurd fit
-    by (Some (value.Num n)) fit some = fit.1
-    by (Some (value.Text text)) fit some = absurd fit
+    by (Some (value.Num n)) fit some = fit.1.0
+    by (Some _) fit some = absurd fit.1
 
--- where a version stays, no key that touches the resource is written
+-- where the version of a declared resource stays, no key that touches it is written
 pub none_written : (book : Book) (of : Resource) (low high : ℕ) (at : Key) → IsLegal book → low ≤ high → low ≤ length book.batches
-    → 1 ≤ version_of (state_at book low) of → version_of (state_at book high) of ≡ version_of (state_at book low) of
+    → is_declared (state_at book high) of ≡ true → version_of (state_at book high) of ≡ version_of (state_at book low) of
     → has at (touching of (writes_in (batches_from book low high))) ≡ false
-none_written book of low high at legal le within one same =
-    has-pushes book of (1 + low) (batches_from book low high) at (quiet_between book of low high legal one)
+none_written book of low high at legal le within declared same =
+    has-pushes book of (1 + low) (batches_from book low high) at (quiet_declared book of low high legal here)
     ∙ ap (λ (pushes : List Push). has at (keys_in pushes)) none
   where
+    here : (m : ℕ) → low ≤ m → m < high → is_declared (state_at book (suc m)) of ≡ true
+    here m lower upper =
+        let from : version_of (state_at book low) of ≤ version_of (state_at book (suc m)) of = version_of-later book low (suc m) of legal (omega arith) in
+        let upto : version_of (state_at book (suc m)) of ≤ version_of (state_at book high) of = version_of-later book (suc m) high of legal (omega arith) in
+        declared_since book of (high - suc m) (suc m) high legal (omega arith) declared (omega arith)
+
     none : pushes_from book of (1 + low) (batches_from book low high) ≡ []
     none =
         let zero_more : version_of (state_at book high) of - version_of (state_at book low) of ≡ 0 = omega arith in
@@ -134,7 +141,7 @@ last_map book net legal declared = by (place_now book of (version_of (rows_of bo
         (good_state book (suc found.place) legal).sorted (good_state book (length book.batches) legal).sorted
         (same_epoch book (suc found.place) (length book.batches) legal)
         (λ at t. same_between book of (suc found.place) (length book.batches) at legal (omega arith) t
-        (none_written book of (suc found.place) (length book.batches) at legal (omega arith) (omega arith) (rw reached one) (now ∙ sym reached)))
+        (none_written book of (suc found.place) (length book.batches) at legal (omega arith) (omega arith) (rw (state_at-all book) declared) (now ∙ sym reached)))
         ∙ ap (λ (rows : Rows). network_map rows net) (state_at-all book))
 
 -- ---- what touches a declared network map
@@ -167,7 +174,11 @@ touched_maps book net n batch legal there declared written = (number (resource.N
         by false e = absurd (written_touching (resource.Net net) batch.writes written (untouched_batch (state_at book n) batch (resource.Net net) follows e))
 
     names : is_touched follows.edits (resource.Prop net) ≡ true
-    names = or_right (is_written follows.edits (resource.Prop net)) (is_written follows.edits (resource.Net net)) touched
+    names = or_right (is_written follows.edits (resource.Prop net)) (is_written follows.edits (resource.Net net)) (once (is_written follows.edits (resource.Net net)) touched)
+      where
+        once : (b : Bool) → (b || b) ≡ true → b ≡ true
+        once true h = refl
+        once false h = h
 
     number : (of : Resource) → is_touched follows.edits of ≡ true → is_declared (state_at book (n + 1)) of ≡ true
         → gives of (version_of (state_at book (n + 1)) of) batch ≡ true

@@ -1,14 +1,16 @@
 -- A new book is legal, and its rows are good.
 use Rattle.std.proofs.Common.{◌≡◌, refl, arith}
-use Rattle.std.specs.Prelude.{ℕ, ◌≤◌, List, IfSome}
-use Rattle.std.specs.List.{IsDistinct}
+use Rattle.std.proofs.lemmas.List.Elements.{All-from_recursion}
+use Rattle.std.specs.Prelude.{ℕ, ◌≤◌, List, Some, IfSome, true}
+use Rattle.std.specs.List.{AllByRecursion, IsDistinct}
 use Rattle.std.specs.List.Sorted.{IsStrictlySortedBy}
 use Rattle.alto_names.specs.Name.{IsEpoch}
 use Rattle.alto_rows.specs.declared.key.Key.{Key}
 use Rattle.alto_rows.specs.declared.key.Key.TheVariants as key
 use Rattle.alto_rows.specs.declared.resource.Resource.{Resource}
 use Rattle.alto_rows.specs.declared.resource.Resource.TheVariants as resource
-use Rattle.alto_rows.specs.Good.{Fits, AreGood}
+use Rattle.alto_rows.specs.declared.value.Value.{Value}
+use Rattle.alto_rows.specs.Good.{Fits, needs, AreGood}
 use Rattle.alto_rows.specs.Order.{key_cmp}
 use Rattle.alto_rows.specs.Rows.{Rows, value_of, has_row}
 use Rattle.alto_rows.specs.Versions.{is_declared, version_of}
@@ -19,17 +21,24 @@ use Rattle.alto_book.specs.Legal.{Opens, IsLegal}
 fit_opening : (epoch : List ℕ) (window : ℕ) → IsEpoch epoch → 2 ≤ window → window ≤ 32
     → (at : Key) → IfSome (value_of (opening_rows epoch window) at) (Fits at)
 unfolding key_cmp
-fit_opening epoch window is low high key.Epoch = is
-fit_opening epoch window is low high key.Window = (low, high)
-fit_opening epoch window is low high (key.Net net) = tt
-fit_opening epoch window is low high (key.Pid net pid) = tt
-fit_opening epoch window is low high (key.Seq of) = tt
+fit_opening epoch window is low high key.Epoch = (tt, is)
+fit_opening epoch window is low high key.Window = (tt, (low, high))
+fit_opening epoch window is low high _ = tt
+
+-- no row of a new book names another
+declared_opening : (epoch : List ℕ) (window : ℕ) (at : Key) (v : Value) → value_of (opening_rows epoch window) at ≡ Some v
+    → AllByRecursion (λ need. has_row (opening_rows epoch window) need ≡ true) (needs at v)
+unfolding key_cmp
+declared_opening epoch window key.Epoch v h = tt
+declared_opening epoch window key.Window v h = tt
+declared_opening epoch window _ v h = cc
 
 -- no resource is declared in a new book
-versions_opening : (epoch : List ℕ) (window : ℕ) (of : Resource) → has_row (opening_rows epoch window) (key.Seq of) ≡ is_declared (opening_rows epoch window) of
+versions_opening : (epoch : List ℕ) (window : ℕ) (of : Resource) → is_declared (opening_rows epoch window) of ≡ true → has_row (opening_rows epoch window) (key.Seq of) ≡ true
 unfolding key_cmp
-versions_opening epoch window (resource.Net net) = refl
-versions_opening epoch window (resource.Prop net) = refl
+versions_opening epoch window (resource.Net net) h = cc
+versions_opening epoch window (resource.Cost net metric) h = cc
+versions_opening epoch window (resource.Prop net) h = cc
 
 -- the rows of a new book are good
 pub good_opening : (epoch : List ℕ) (window : ℕ) → IsEpoch epoch → 2 ≤ window → window ≤ 32 → AreGood (opening_rows epoch window)
@@ -39,8 +48,9 @@ good_opening epoch window is low high = record {
   fit = fit_opening epoch window is low high;
   epoch = refl;
   window = refl;
-  nets_declared = λ net pid h. cc;
-  versions = λ of. versions_opening epoch window of;
+  declared = λ at v h. All-from_recursion (λ (need : Key). has_row (opening_rows epoch window) need ≡ true) (needs at v) (declared_opening epoch window at v h);
+  one_pid = λ net first second prefix h g. cc;
+  versions = versions_opening epoch window;
 }
 
 -- rows with which a book may open are good

@@ -4,19 +4,16 @@ use Rattle.std.proofs.lemmas.Bool.{cases_lt}
 use Rattle.std.proofs.lemmas.Bool.Decides.{nat_tests}
 use Rattle.std.proofs.lemmas.List.Sums.{position_or_len_is}
 use Rattle.std.proofs.lemmas.Option.{slice_get_within, slice_get-get_or, get_or_from_slice_get}
-use Rattle.std.specs.Prelude.{ℕ, ◌+◌, ◌<◌, ◌≤◌, ◌⊎◌, ◌==◌, ◌&&◌, Bool, true, false, cond, [], length, Option, Some, None, is_some, slice_get}
+use Rattle.std.specs.Prelude.{ℕ, ◌+◌, ◌<◌, ◌≤◌, ◌⊎◌, ◌==◌, ◌&&◌, Bool, true, false, cond, length, Option, Some, None, slice_get}
 use Rattle.std.specs.List.{position_or_len}
-use Rattle.alto_rows.specs.declared.key.Key.TheVariants as key
 use Rattle.alto_rows.specs.declared.resource.Resource.{Resource}
-use Rattle.alto_rows.specs.declared.value.Value.{Value}
 use Rattle.alto_rows.specs.Accepted.{Accepted}
-use Rattle.alto_rows.specs.Good.{AreGood}
-use Rattle.alto_rows.specs.Rows.{Rows, value_of, after}
-use Rattle.alto_rows.specs.Versions.{number_in, is_declared, version_of}
+use Rattle.alto_rows.specs.Rows.{Rows, after}
+use Rattle.alto_rows.specs.Versions.{is_declared, version_of}
 use Rattle.alto_book.specs.Book.{Book, state_at}
 use Rattle.alto_book.specs.Legal.{Follows, IsLegal}
-use Rattle.alto_book.specs.Numbers.{gives, renews, touching, batches_to, rows_at}
-use Rattle.alto_book.proofs.GivenLemmas.{raised, gives-batch, renews-batch, version_of-renewed, quiet_batch}
+use Rattle.alto_book.specs.Numbers.{gives, renews, batches_to, rows_at}
+use Rattle.alto_book.proofs.GivenLemmas.{declared_quiet, declared_renewed, raised, gives-batch, renews-batch, version_of-renewed}
 use Rattle.alto_book.proofs.NumberLemmas.{version_of-later}
 use Rattle.alto_book.proofs.OpeningLemmas.{version_of-opens}
 use Rattle.alto_book.proofs.StateLemmas.{state_at-next, state_at-past, good_state}
@@ -167,25 +164,51 @@ version_of-given book of number place batch legal given =
 
 -- ---- a resource that has a version is declared
 
-valued : (o : Option Value) → 1 ≤ number_in o → is_some o ≡ true
-valued None h = absurd (omega arith)
-valued (Some value) h = refl
-
-pub declared_versioned : (rows : Rows) (of : Resource) → AreGood rows → 1 ≤ version_of rows of → is_declared rows of ≡ true
-declared_versioned rows of good h = sym (good.versions of) ∙ valued (value_of rows (key.Seq of)) h
-
--- a batch that gives a resource with a version no number writes no key that touches it
-pub quiet_at : (book : Book) (of : Resource) (n : ℕ) (batch : Accepted) → IsLegal book → slice_get book.batches n ≡ Some batch
-    → 1 ≤ version_of (state_at book n) of → renews of batch ≡ false → touching of batch.writes ≡ []
-quiet_at book of n batch legal there low h =
-    quiet_batch (state_at book n) batch of (good_state book n legal) follows
-    (declared_versioned (after (state_at book n) batch.writes) of follows.good later) h
+pub declared_versioned : (book : Book) (n : ℕ) (of : Resource) → IsLegal book → 1 ≤ version_of (state_at book n) of → is_declared (state_at book n) of ≡ true
+declared_versioned book zero of legal some =
+    let none : version_of (state_at book zero) of ≡ 0 = version_of-opens book.base of legal.base in
+    absurd (omega arith)
+declared_versioned book (suc n) of legal some = by (λ low. declared_versioned book n of legal low) (slice_get book.batches n) refl
   where
-    follows : Follows (state_at book n) batch
-    follows = legal.each n batch there
+    by : (1 ≤ version_of (state_at book n) of → is_declared (state_at book n) of ≡ true) → (o : Option Accepted) → slice_get book.batches n ≡ o
+        → is_declared (state_at book (suc n)) of ≡ true
+    by below None e = rw (state_at-past book n e) (below (rw (state_at-past book n e) at some))
+    by below (Some batch) e = rw (state_at-next book n batch e) (either (renews of batch) refl)
+      where
+        either : (b : Bool) → renews of batch ≡ b → is_declared (after (state_at book n) batch.writes) of ≡ true
+        either true r = declared_renewed (state_at book n) batch of (good_state book n legal) (legal.each n batch e) r
+        either false r =
+            let same : version_of (state_at book (suc n)) of ≡ version_of (state_at book n) of = version_of-next book of n batch legal e ∙ rw r refl in
+            (legal.each n batch e).stays of (below (omega arith))
 
-    later : 1 ≤ version_of (after (state_at book n) batch.writes) of
-    later =
-        let same : version_of (after (state_at book n) batch.writes) of ≡ version_of (state_at book n) of =
-        version_of-renewed (state_at book n) batch of (good_state book n legal).sorted follows ∙ rw h refl in
-        omega arith
+-- ---- a declared resource was declared since its last number
+
+-- before a batch that gives it no number
+declared_before : (book : Book) (n : ℕ) (of : Resource) → IsLegal book → is_declared (state_at book (suc n)) of ≡ true
+    → version_of (state_at book (suc n)) of ≡ version_of (state_at book n) of → is_declared (state_at book n) of ≡ true
+declared_before book n of legal now same = by (slice_get book.batches n) refl
+  where
+    by : (o : Option Accepted) → slice_get book.batches n ≡ o → is_declared (state_at book n) of ≡ true
+    by None e = rw (state_at-past book n e) at now
+    by (Some batch) e =
+        declared_quiet (state_at book n) batch of (good_state book n legal) (legal.each n batch e) (rw (state_at-next book n batch e) at now) (quiet (renews of batch) refl)
+      where
+        quiet : (b : Bool) → renews of batch ≡ b → renews of batch ≡ false
+        quiet false r = r
+        quiet true r =
+            let higher : version_of (state_at book (suc n)) of ≡ version_of (state_at book n) of + 1 = version_of-next book of n batch legal e ∙ rw r refl in
+            absurd (omega arith)
+
+-- and so at each place back to the batch that gave it
+pub declared_since : (book : Book) (of : Resource) (d n high : ℕ) → IsLegal book → high ≡ d + n → is_declared (state_at book high) of ≡ true
+    → version_of (state_at book high) of ≡ version_of (state_at book n) of → is_declared (state_at book n) of ≡ true
+declared_since book of zero n high legal e now same =
+    let is : high ≡ n = omega arith in
+    rw is at now
+declared_since book of (suc d) n high legal e now same =
+    let is : high ≡ suc (d + n) = omega arith in
+    let here : is_declared (state_at book (suc (d + n))) of ≡ true = rw is at now in
+    let reached : version_of (state_at book (suc (d + n))) of ≡ version_of (state_at book n) of = rw is at same in
+    let low : version_of (state_at book n) of ≤ version_of (state_at book (d + n)) of = version_of-later book n (d + n) of legal (omega arith) in
+    let high_too : version_of (state_at book (d + n)) of ≤ version_of (state_at book (suc (d + n))) of = version_of-later book (d + n) (suc (d + n)) of legal (omega arith) in
+    declared_since book of d n (d + n) legal refl (declared_before book (d + n) of legal here (omega arith)) (omega arith)

@@ -13,11 +13,11 @@ use Rattle.alto_rows.specs.declared.value.Value.TheVariants as value
 use Rattle.alto_rows.specs.declared.write.Write.{Write}
 use Rattle.alto_rows.specs.Order.{key_cmp, resource_cmp}
 use Rattle.alto_rows.specs.Rows.{Rows, AreSorted, value_of, with_value, after}
-use Rattle.alto_rows.specs.Versions.{is_declared, version_of}
-use Rattle.alto_rules.specs.Versions.{resources_of, is_touched, next_version, sequence_writes}
+use Rattle.alto_rows.specs.Versions.{is_declared, resources_of, version_of}
+use Rattle.alto_rules.specs.Versions.{is_touched, next_version, sequence_writes}
 use Rattle.alto_book.specs.Legal.{IsOfEdit}
 use Rattle.alto_book.proofs.SameLemmas.{one_resource, stands, stands-filter}
-use Rattle.alto_rules.proofs.ResourceLemmas.{resources_found}
+use Rattle.alto_rows.proofs.ResourceLemmas.{resources_found}
 
 -- no version row is of the key
 abbrev pub IsNoVersion : Key → Type 0
@@ -59,9 +59,8 @@ none_edits (write ∷ edits) of all = (by write.key all.0, none_edits edits of a
     by : (at : Key) → IsOfEdit at → is_eq (key_cmp (key.Seq of) at) ≡ false
     by key.Epoch h = absurd h
     by key.Window h = absurd h
-    by (key.Net net) h = refl
-    by (key.Pid net pid) h = refl
     by (key.Seq one) h = absurd h
+    by _ h = refl
 
 -- writes of edits leave the versions
 pub value_of-edits : (rows : Rows) (edits : List Write) (of : Resource) → AreSorted rows → All (λ write. IsOfEdit write.key) edits

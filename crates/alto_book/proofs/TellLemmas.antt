@@ -51,9 +51,8 @@ window_some rows good = by (value_of rows key.Window) (good.fit key.Window) good
   where
     by : (o : Option Value) → IfSome o (Fits key.Window) → is_some o ≡ true → 1 ≤ number_in o
     by None fit some = cc
-    by (Some value.Unit) fit some = absurd fit
-    by (Some (value.Num n)) fit some = omega (arith, fit.0)
-    by (Some (value.Text text)) fit some = absurd fit
+    by (Some (value.Num n)) fit some = omega (arith, fit.1.0)
+    by (Some _) fit some = absurd fit.1
 
 positive : (i : ℕ) → 1 ≤ i → IsTrue (nat_lt 0 i)
 positive i low = grind (arith, nat_tests)

@@ -1,12 +1,11 @@
 -- What holds of every book, whatever imports come: the statements of the laws.
 use Rattle.std.specs.Prelude.{◌≡◌, ℕ, ◌≤◌, List, length, All, IfSome, IfErr, Some, None, Ok, Err, ⊤, slice_get}
-use Rattle.alto_names.specs.Name.{IsEpoch, IsNetName}
+use Rattle.alto_names.specs.Name.{IsEpoch}
 use Rattle.alto_rows.specs.declared.key.Key.{Key}
 use Rattle.alto_rows.specs.declared.key.Key.TheVariants as key
 use Rattle.alto_rows.specs.declared.resource.Resource.{Resource}
 use Rattle.alto_rows.specs.Accepted.{Accepted}
-use Rattle.alto_rows.specs.Good.{Fits, AreGood}
-use Rattle.alto_rows.specs.Order.{net_of}
+use Rattle.alto_rows.specs.Good.{IsResource, Fits, AreGood}
 use Rattle.alto_rows.specs.Versions.{version_of}
 use Rattle.alto_rules.specs.Rules.{IsEdit}
 use Rattle.alto_book.specs.declared.command.Receipt.{Receipt}
@@ -71,7 +70,7 @@ LegalStatesAreGood = (book : Book) (n : ℕ) → IsLegal book → AreGood (state
 
 -- a key that a batch may write: that of a version, or one that an edit may write
 abbrev pub IsOfBatch : Key → Type 0
-IsOfBatch (key.Seq of) = IsNetName (net_of of)
+IsOfBatch (key.Seq of) = IsResource of
 IsOfBatch at = IsOfEdit at
 
 -- each write of a batch of a legal book has a key that batches may write and, where it puts a value, one that fits

@@ -1,14 +1,16 @@
 -- Which books can come about.
-use Rattle.std.specs.Prelude.{◌≡◌, ℕ, ◌≤◌, List, ◌++◌, length, Some, IfSome, All, map, slice_get}
+use Rattle.std.specs.Prelude.{◌≡◌, ℕ, ◌≤◌, true, List, ◌++◌, length, Some, IfSome, All, map, slice_get}
 use Rattle.std.specs.List.{IsDistinct}
-use Rattle.alto_names.specs.Name.{IsEpoch, IsNetName, IsPidName}
+use Rattle.alto_names.specs.Name.{IsEpoch}
 use Rattle.alto_rows.specs.declared.key.Key.{Key}
 use Rattle.alto_rows.specs.declared.key.Key.TheVariants as key
+use Rattle.alto_rows.specs.declared.resource.Resource.{Resource}
 use Rattle.alto_rows.specs.declared.write.Write.{Write}
 use Rattle.alto_rows.specs.Accepted.{Accepted}
-use Rattle.alto_rows.specs.Good.{Fits, AreGood}
+use Rattle.alto_rows.specs.Good.{IsKey, Fits, AreGood}
 use Rattle.alto_rows.specs.Order.{same_name}
 use Rattle.alto_rows.specs.Rows.{Rows, after}
+use Rattle.alto_rows.specs.Versions.{is_declared}
 use Rattle.alto_rules.specs.Versions.{sequence_writes}
 use Rattle.alto_book.specs.Book.{Book, opening_rows, state_at, writes_in}
 
@@ -16,17 +18,18 @@ use Rattle.alto_book.specs.Book.{Book, opening_rows, state_at, writes_in}
 abbrev pub IsOfEdit : Key → Type 0
 IsOfEdit key.Epoch = ⊥
 IsOfEdit key.Window = ⊥
-IsOfEdit (key.Net net) = IsNetName net
-IsOfEdit (key.Pid net pid) = IsNetName net × IsPidName pid
 IsOfEdit (key.Seq of) = ⊥
+IsOfEdit at = IsKey at
 
--- a batch that may follow the rows: writes of edits, whose values fit, and then exactly their version rows, with good rows after it
+-- a batch that may follow the rows: writes of edits, whose values fit, and then exactly their version rows; the rows
+-- after it are good, and what was declared before it still is
 pub record Follows (rows : Rows) (batch : Accepted) : Type 0 where
   pub edits : List Write
   pub of_edits : All (λ write. IsOfEdit write.key) edits
   pub fit : All (λ write. IfSome write.value (Fits write.key)) edits
   pub whole : batch.writes ≡ edits ++ sequence_writes rows edits
   pub good : AreGood (after rows batch.writes)
+  pub stays : (of : Resource) → is_declared rows of ≡ true → is_declared (after rows batch.writes) of ≡ true
 
 -- rows with which a book may open: an epoch and a window
 pub record Opens (rows : Rows) : Type 0 where

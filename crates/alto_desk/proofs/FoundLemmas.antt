@@ -3,7 +3,6 @@ use Rattle.std.proofs.Common.{◌≡◌, ℕ, ◌+◌, ◌<◌, true, false, Lis
 use Rattle.std.specs.BTreeMap.{is_at}
 use Rattle.std.specs.List.{list_any}
 use Rattle.std.proofs.lemmas.List.{drop-map}
-use Rattle.std.proofs.lemmas.List.Folds.{list_any-append}
 use Rattle.std.specs.Ordering.{is_eq}
 use Rattle.std.specs.declared.cmp.Ordering.{Ordering}
 use Rattle.std.specs.declared.cmp.Ordering.TheVariants.{Less, Equal, Greater}
@@ -11,13 +10,14 @@ use Rattle.alto_rows.specs.declared.resource.Resource.{Resource}
 use Rattle.alto_rows.specs.declared.resource.Resource.TheVariants as resource
 use Rattle.alto_rows.specs.Order.{resource_cmp}
 use Rattle.alto_rows.specs.Rows.{Rows}
-use Rattle.alto_rows.specs.Versions.{is_declared}
+use Rattle.alto_rows.specs.Versions.{is_declared, resources_of}
 use Rattle.alto_rows.proofs.OrderLemmas.{resource_cmp_exact}
-use Rattle.alto_rules.proofs.ResourceLemmas.{or_false, resources_found}
-use Rattle.alto_rules.specs.Versions.{nets_of}
+use Rattle.alto_rows.proofs.ResourceLemmas.{resources_found}
 use Rattle.tips_graph.specs.Graph.{GraphData}
 use Rattle.alto_book.specs.Book.{Book, rows_of}
 use Rattle.alto_book.specs.Numbers.{updates_graph}
+use Rattle.alto_book.proofs.SameLemmas.{stands-filter}
+use Rattle.alto_desk.proofs.ResourceLemmas.{is_map, maps_followed}
 use Rattle.alto_desk.specs.Front.{followed, graph_in, graphs_of}
 
 equal_tests : (o : Ordering) → is_eq o ≡ true → o ≡ Equal
@@ -54,19 +54,9 @@ from_place f items graphs of place item same within at =
     drop-map f place items ∙ ap (map f) cut ∙ ap (λ x. f x ∷ map f (drop (place + 1) items)) (sym at) ∙ ap (λ xs. f item ∷ xs) (sym (drop-map f (place + 1) items)) in
     rw same (ap (λ graphs. graph_in graphs of) here)
 
--- no property map is a network map
-no_map : (net : List ℕ) (nets : List (List ℕ)) → list_any (is_at (resource_cmp (resource.Net net))) (map resource.Prop nets) ≡ false
-unfolding resource_cmp
-no_map net [] = refl
-no_map net (other ∷ nets) = no_map net nets
-
 -- the network maps that are followed are those that are declared
 followed_found : (rows : Rows) (net : List ℕ) → list_any (is_at (resource_cmp (resource.Net net))) (followed rows) ≡ is_declared rows (resource.Net net)
-followed_found rows net =
-    sym (or_false (list_any (is_at (resource_cmp (resource.Net net))) (followed rows)))
-    ∙ ap (λ b. list_any (is_at (resource_cmp (resource.Net net))) (followed rows) || b) (sym (no_map net (nets_of rows)))
-    ∙ sym (list_any-append (is_at (resource_cmp (resource.Net net))) (followed rows) (map resource.Prop (nets_of rows)))
-    ∙ resources_found rows (resource.Net net)
+followed_found rows net = rw (← maps_followed rows) (stands-filter is_map (resource.Net net) (resources_of rows) ∙ resources_found rows (resource.Net net))
 
 -- the graph of a declared network's map is the book's, and no other network map has one
 pub graph_found : (book : Book) (net : List ℕ)

@@ -3,7 +3,7 @@ use Rattle.std.proofs.Common.{◌≡◌, refl, ap, sym, ◌∙◌, arith}
 use Rattle.std.proofs.lemmas.List.{append-nil}
 use Rattle.std.proofs.lemmas.List.Elements.{filter-append}
 use Rattle.std.proofs.lemmas.List.Kept.{IsStrictlySortedBy-filter}
-use Rattle.std.specs.Prelude.{ℕ, ◌≤◌, Bool, true, false, cond, ◌&&◌, List, [], ◌∷◌, map, filter, Option, Some, None}
+use Rattle.std.specs.Prelude.{ℕ, ◌≤◌, Bool, true, false, cond, ◌&&◌, List, [], ◌∷◌, ◌++◌, length, map, filter, Option, Some, None}
 use Rattle.std.specs.List.{AllByRecursion, filter_map}
 use Rattle.std.specs.List.Sorted.{IsStrictlySortedBy}
 use Rattle.std.specs.Map.{keys_of}
@@ -19,17 +19,16 @@ use Rattle.alto_rows.proofs.RowsLemmas.{same_rows}
 use Rattle.alto_rows.specs.Accepted.{Accepted}
 use Rattle.alto_rows.specs.Order.{key_cmp, resource_cmp}
 use Rattle.alto_rows.specs.Rows.{Rows, AreSorted, value_of}
-use Rattle.alto_rows.specs.Versions.{is_declared, version_of}
-use Rattle.alto_rules.proofs.ResourceLemmas.{resources_found, resources_sorted}
-use Rattle.alto_rules.specs.Versions.{nets_of, resources_of}
-use Rattle.alto_book.specs.Book.{Book, rows_of}
+use Rattle.alto_rows.specs.Versions.{cost_declared, is_declared, nets_of, resources_of, version_of}
+use Rattle.alto_rows.proofs.ResourceLemmas.{AreOfKind, costs_kind, resources_found, resources_sorted}
+use Rattle.alto_book.specs.Book.{Book, rows_of, state_at}
 use Rattle.alto_book.specs.Legal.{IsLegal}
 use Rattle.alto_book.proofs.GraphLemmas.{grown_extends}
 use Rattle.alto_book.proofs.GrownLemmas.{grown}
 use Rattle.alto_book.proofs.MapLemmas.{versioned}
 use Rattle.alto_book.proofs.PlaceLemmas.{declared_versioned}
 use Rattle.alto_book.proofs.SameLemmas.{stands, stands-filter}
-use Rattle.alto_book.proofs.StateLemmas.{good_rows}
+use Rattle.alto_book.proofs.StateLemmas.{good_rows, state_at-all}
 use Rattle.alto_book.proofs.StayLemmas.{version_of-extended}
 use Rattle.alto_desk.specs.Front.{followed}
 
@@ -67,10 +66,7 @@ no_other (one ∷ ofs) at h = rw (h one) (no_other ofs at h)
 -- the resource of such a row
 abbrev resource_in : Key × Value → Option Resource
 resource_in (key.Seq of, v) = Some of
-resource_in (key.Epoch, v) = None
-resource_in (key.Window, v) = None
-resource_in (key.Net net, v) = None
-resource_in (key.Pid net pid, v) = None
+resource_in _ = None
 
 resources_with : (ofs : List Resource) → filter_map resource_in (rows_with ofs) ≡ ofs
 resources_with [] = refl
@@ -85,12 +81,9 @@ same_resources ofs others s t same =
     ∙ (ap (filter_map resource_in) (same_rows (rows_with ofs) (rows_with others) (sorted_with ofs s) (sorted_with others t) values) ∙ resources_with others)
   where
     values : (at : Key) → value_of (rows_with ofs) at ≡ value_of (rows_with others) at
-    values key.Epoch = no_other ofs key.Epoch (λ of. refl) ∙ sym (no_other others key.Epoch (λ of. refl))
-    values key.Window = no_other ofs key.Window (λ of. refl) ∙ sym (no_other others key.Window (λ of. refl))
-    values (key.Net net) = no_other ofs (key.Net net) (λ of. refl) ∙ sym (no_other others (key.Net net) (λ of. refl))
-    values (key.Pid net pid) = no_other ofs (key.Pid net pid) (λ of. refl) ∙ sym (no_other others (key.Pid net pid) (λ of. refl))
     values (key.Seq of) =
         value_of-with ofs of ∙ (ap (λ (b : Bool). cond b (Some value.Unit) None) (same of) ∙ sym (value_of-with others of))
+    values at = no_other ofs at (λ of. refl) ∙ sym (no_other others at (λ of. refl))
 
 -- ---- declared before and after a batch
 
@@ -98,10 +91,12 @@ same_resources ofs others s t same =
 stays_declared : (book : Book) (batch : Accepted) (of : Resource) → IsLegal book → IsLegal (grown book batch) → is_declared (rows_of book) of ≡ true
     → is_declared (rows_of (grown book batch)) of ≡ true
 stays_declared book batch of legal legal_grown h =
+    let after = grown book batch in
     let one : 1 ≤ version_of (rows_of book) of = versioned (rows_of book) of (good_rows book legal) h in
-    let more : version_of (rows_of book) of ≤ version_of (rows_of (grown book batch)) of =
-    version_of-extended book (grown book batch) of legal legal_grown (grown_extends book batch) in
-    declared_versioned (rows_of (grown book batch)) of (good_rows (grown book batch) legal_grown) (omega arith)
+    let more : version_of (rows_of book) of ≤ version_of (rows_of after) of =
+    version_of-extended book after of legal legal_grown (grown_extends book batch) in
+    let some : 1 ≤ version_of (state_at after (length after.batches)) of = rw (state_at-all after) (omega arith) in
+    rw (state_at-all after) at (declared_versioned after (length after.batches) of legal_grown some)
 
 -- the declared resources before are those after that were declared before
 declared_before : (book : Book) (batch : Accepted) → IsLegal book → IsLegal (grown book batch)
@@ -124,9 +119,9 @@ declared_before book batch legal legal_grown =
 -- ---- those that are followed
 
 -- a network map
-abbrev is_map : Resource → Bool
+abbrev pub is_map : Resource → Bool
 is_map (resource.Net net) = true
-is_map (resource.Prop net) = false
+is_map _ = false
 
 all_maps : (nets : List (List ℕ)) → filter is_map (map resource.Net nets) ≡ map resource.Net nets
 all_maps [] = refl
@@ -136,11 +131,21 @@ no_maps : (nets : List (List ℕ)) → filter is_map (map resource.Prop nets) �
 no_maps [] = refl
 no_maps (net ∷ nets) = no_maps nets
 
+none_of_costs : (ofs : List Resource) → AreOfKind 2 ofs → filter is_map ofs ≡ []
+none_of_costs [] kinds = refl
+none_of_costs (resource.Net net ∷ ofs) kinds = cc
+none_of_costs (resource.Cost net metric ∷ ofs) kinds = none_of_costs ofs kinds.1
+none_of_costs (resource.Prop net ∷ ofs) kinds = none_of_costs ofs kinds.1
+
+no_costs : (rows : Rows) → filter is_map (filter_map cost_declared rows) ≡ []
+no_costs rows = none_of_costs (filter_map cost_declared rows) (costs_kind rows)
+
 -- are the network maps among the declared resources
-maps_followed : (rows : Rows) → filter is_map (resources_of rows) ≡ followed rows
+pub maps_followed : (rows : Rows) → filter is_map (resources_of rows) ≡ followed rows
 maps_followed rows =
-    filter-append is_map (map resource.Net (nets_of rows)) (map resource.Prop (nets_of rows))
-    ∙ (rw (all_maps (nets_of rows), no_maps (nets_of rows)) (append-nil (map resource.Net (nets_of rows))))
+    filter-append is_map (map resource.Net (nets_of rows)) (filter_map cost_declared rows ++ map resource.Prop (nets_of rows))
+    ∙ (rw (filter-append is_map (filter_map cost_declared rows) (map resource.Prop (nets_of rows)), all_maps (nets_of rows), no_costs rows, no_maps (nets_of rows))
+    (append-nil (map resource.Net (nets_of rows))))
 
 -- they are in order
 pub followed_sorted : (rows : Rows) → AreSorted rows → IsStrictlySortedBy resource_cmp (followed rows)

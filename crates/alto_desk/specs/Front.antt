@@ -6,7 +6,7 @@ use Rattle.std.specs.BTreeMap.{is_at}
 use Rattle.std.specs.Map.{lookup}
 use Rattle.alto_rows.specs.Order.{resource_cmp}
 use Rattle.alto_rows.specs.Rows.{Rows}
-use Rattle.alto_rules.specs.Versions.{nets_of}
+use Rattle.alto_rows.specs.Versions.{nets_of}
 use Rattle.tips_graph.specs.Graph.{GraphData}
 use Rattle.alto_book.specs.Book.{Book, rows_of}
 use Rattle.alto_book.specs.Numbers.{updates_graph}

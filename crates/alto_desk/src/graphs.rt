@@ -15,7 +15,7 @@ ghost use Rattle.alto_desk.specs.Front.{followed, graphs_of};
 ghost use Rattle.alto_desk.specs.Graphs.{entries, leading_graph, graphs_behind};
 ghost use Rattle.alto_desk.specs.Graphs as graphs;
 
-use alto_rows::{Key, Resource, RowStore, Value, Write, touches, walk_from};
+use alto_rows::{Key, Resource, RowStore, Span, Value, Write, rows_in, touches};
 use std::alloc::{AllocError, Global};
 use std::sync::Arc;
 use tips_graph::Graph;
@@ -49,15 +49,12 @@ pub(crate) fn graphs_after<R: RowStore>(
 
 /// The resources that are followed at these rows. One walk over the rows of the networks.
 fn followed<R: RowStore>(alloc: Global, rows: &R) -> Result<Vec<Resource>, AllocError>
-    requires { AreSorted (R.rows rows.now) }
     ensures { IfOk result (λ resources. resources.items ≡ followed (R.rows rows.now)) }
 {
     let mut resources = Vec::new(alloc);
-    for row in walk_from(rows, &Key::Window) {
-        match &row.0 {
-            Key::Net(net) => resources.push(Resource::Net(net.clone()?))?,
-            Key::Window => {}
-            _ => break,
+    for row in rows_in(rows, Span::Nets) {
+        if let Key::Net(net) = &row.0 {
+            resources.push(Resource::Net(net.clone()?))?;
         }
     }
     Ok(resources)

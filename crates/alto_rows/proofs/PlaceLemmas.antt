@@ -1,8 +1,7 @@
 -- The place of a key in sorted rows: what stands before and behind it, and what an edit there does.
-use Rattle.std.proofs.Common.{◌≡◌, ℕ, ◌+◌, ◌<◌, refl, ap, sym, ◌∙◌, arith, length-append, drop, get_or, add-one, suc}
-use Rattle.std.proofs.Math.Seq.{drop-append_seam, drop-append-add, take-append_seam, get_or-append_seam, set-append_seam}
-use Rattle.std.proofs.Math.ListN.{set}
-use Rattle.std.specs.Prelude.{[], ◌∷◌, ◌++◌, length, Option, Some, None, Ok, Err, insert, remove}
+use Rattle.std.proofs.Common.{◌≡◌, ℕ, ◌+◌, ◌<◌, refl, ap, sym, ◌∙◌, arith, length-append, take, drop, get_or, suc, append-nil}
+use Rattle.std.proofs.Math.Seq.{drop-append_seam, drop-append-add, take-append_seam, get_or-append_seam}
+use Rattle.std.specs.Prelude.{[], ◌∷◌, ◌++◌, length, Option, Some, None, Ok, Err}
 use Rattle.std.specs.declared.cmp.Ordering.{Ordering}
 use Rattle.std.specs.declared.cmp.Ordering.TheVariants.{Less, Equal, Greater}
 use Rattle.alto_rows.specs.declared.key.Key.{Key}
@@ -142,6 +141,20 @@ pub rows_past-missing : (rows : Rows) (key : Key) (at : ℕ) → IsMissing rows 
 rows_past-missing rows key at m =
     rw (m.whole, m.place, drop-append_seam m.front m.back) (rows_past-before key m.front m.back m.before ∙ rows_past-past key m.back m.past)
 
+-- the rows before a key are those before its place
+pub rows_before-found : (rows : Rows) (key : Key) (at : ℕ) → IsFound rows key at → AreSorted rows → rows_before rows key ≡ take at rows
+rows_before-found rows key at f s =
+    let split : AreSorted (f.front ++ (key, f.value) ∷ f.back) = rw f.whole at s in
+    rw (f.whole, f.place, take-append_seam f.front ((key, f.value) ∷ f.back))
+    (rows_before-before key f.front ((key, f.value) ∷ f.back) (before_middle f.front (key, f.value) f.back split)
+    ∙ rw (key_cmp_itself key, rows_before-past key f.back (past_middle f.front (key, f.value) f.back split)) (append-nil f.front))
+
+-- and so where it has no row
+pub rows_before-missing : (rows : Rows) (key : Key) (at : ℕ) → IsMissing rows key at → rows_before rows key ≡ take at rows
+rows_before-missing rows key at m =
+    rw (m.whole, m.place, take-append_seam m.front m.back)
+    (rows_before-before key m.front m.back m.before ∙ rw (rows_before-past key m.back m.past) (append-nil m.front))
+
 -- ---- writes at a place
 
 -- a write of a key passes the rows before it
@@ -160,31 +173,6 @@ delete-past key (row ∷ rows) h = rw h.0 (ap (λ (more : Rows). row ∷ more) (
 pub put-past : (key : Key) (value : Value) (rows : Rows) → ArePast key rows → with_value rows key (Some value) ≡ (key, value) ∷ rows
 put-past key value [] h = refl
 put-past key value (row ∷ rows) h = rw h.0 refl
-
--- a deletion takes the row at the key's place
-pub delete-found : (rows : Rows) (key : Key) (at : ℕ) → IsFound rows key at → AreSorted rows → with_value rows key None ≡ remove rows at
-delete-found rows key at f s =
-    let split : AreSorted (f.front ++ (key, f.value) ∷ f.back) = rw f.whole at s in
-    rw (f.whole, f.place, take-append_seam f.front ((key, f.value) ∷ f.back), ← add-one (length f.front), drop-append-add f.front ((key, f.value) ∷ f.back) 1)
-    (with_value-before key None f.front ((key, f.value) ∷ f.back) (before_middle f.front (key, f.value) f.back split) ∙ rw (key_cmp_itself key) refl)
-
--- a deletion of a missing key changes nothing
-pub delete-missing : (rows : Rows) (key : Key) (at : ℕ) → IsMissing rows key at → with_value rows key None ≡ rows
-delete-missing rows key at m =
-    rw m.whole (with_value-before key None m.front m.back m.before ∙ ap (λ (more : Rows). m.front ++ more) (delete-past key m.back m.past))
-
--- a put of a key that has a row writes its value there
-pub put-found : (rows : Rows) (key : Key) (value : Value) (at : ℕ) → IsFound rows key at → AreSorted rows → with_value rows key (Some value) ≡ set rows at (key, value)
-put-found rows key value at f s =
-    let split : AreSorted (f.front ++ (key, f.value) ∷ f.back) = rw f.whole at s in
-    rw (f.whole, f.place, set-append_seam f.front (key, f.value) f.back (key, value))
-    (with_value-before key (Some value) f.front ((key, f.value) ∷ f.back) (before_middle f.front (key, f.value) f.back split) ∙ rw (key_cmp_itself key) refl)
-
--- a put of a missing key brings its row to the key's place
-pub put-missing : (rows : Rows) (key : Key) (value : Value) (at : ℕ) → IsMissing rows key at → with_value rows key (Some value) ≡ insert rows at (key, value)
-put-missing rows key value at m =
-    rw (m.whole, m.place, take-append_seam m.front m.back, drop-append_seam m.front m.back)
-    (with_value-before key (Some value) m.front m.back m.before ∙ ap (λ (more : Rows). m.front ++ more) (put-past key value m.back m.past))
 
 -- ---- at the answer of a search
 
@@ -216,28 +204,10 @@ drop_past_row rows key at s place = sym (rows_past-found rows key at (found_from
 pub drop_past_gap : (rows : Rows) (key : Key) (at : ℕ) → AreSorted rows → Err at ≡ place_of rows key → drop at rows ≡ rows_past rows key
 drop_past_gap rows key at s place = sym (rows_past-missing rows key at (missing_from_place rows key at s (sym place)))
 
--- a deletion takes the row at the place
-pub delete_at_row : (rows : Rows) (key : Key) (at : ℕ) → AreSorted rows → Ok at ≡ place_of rows key → remove rows at ≡ with_value rows key None
-delete_at_row rows key at s place = sym (delete-found rows key at (found_from_place rows key at s (sym place)) s)
+-- the rows before a key stand before its row's place
+pub take_at_row : (rows : Rows) (key : Key) (at : ℕ) → AreSorted rows → Ok at ≡ place_of rows key → take at rows ≡ rows_before rows key
+take_at_row rows key at s place = sym (rows_before-found rows key at (found_from_place rows key at s (sym place)) s)
 
--- without a row there is nothing to delete
-pub delete_at_gap : (rows : Rows) (key : Key) (at : ℕ) → AreSorted rows → Err at ≡ place_of rows key → rows ≡ with_value rows key None
-delete_at_gap rows key at s place = sym (delete-missing rows key at (missing_from_place rows key at s (sym place)))
-
--- a put writes the value into the row at the place
-pub put_at_row : (rows : Rows) (key : Key) (value : Value) (at : ℕ) → AreSorted rows → Ok at ≡ place_of rows key → set rows at (key, value) ≡ with_value rows key (Some value)
-put_at_row rows key value at s place = sym (put-found rows key value at (found_from_place rows key at s (sym place)) s)
-
--- or brings a new row there
-pub put_at_gap : (rows : Rows) (key : Key) (value : Value) (at : ℕ) → AreSorted rows → Err at ≡ place_of rows key → insert rows at (key, value) ≡ with_value rows key (Some value)
-put_at_gap rows key value at s place = sym (put-missing rows key value at (missing_from_place rows key at s (sym place)))
-
--- the row at the place has the key
-pub key_at_place : (rows : Rows) (key : Key) (at : ℕ) (row : Key × Value) → AreSorted rows → Ok at ≡ place_of rows key → row ≡ get_or rows at row → row.0 ≡ key
-key_at_place rows key at row s place is =
-    by (found_from_place rows key at s (sym place))
-  where
-    by : IsFound rows key at → row.0 ≡ key
-    by f =
-        let here : get_or rows at row ≡ (key, f.value) = rw (f.whole, f.place) (get_or-append_seam f.front (key, f.value) f.back row) in
-        ap (λ (pair : Key × Value). pair.0) (is ∙ here)
+-- and before the place where its row would go
+pub take_at_gap : (rows : Rows) (key : Key) (at : ℕ) → AreSorted rows → Err at ≡ place_of rows key → take at rows ≡ rows_before rows key
+take_at_gap rows key at s place = sym (rows_before-missing rows key at (missing_from_place rows key at s (sym place)))

@@ -59,7 +59,7 @@ pub record IsTail (all tail : Rows) : Type 0 where
   pub whole : all ≡ front ++ tail
 
 -- the last rows of rows with one more before them
-tail_more : (row : Key × Value) (all tail : Rows) → IsTail all tail → IsTail (row ∷ all) tail
+pub tail_more : (row : Key × Value) (all tail : Rows) → IsTail all tail → IsTail (row ∷ all) tail
 tail_more row all tail t = record { front = row ∷ t.front; whole = ap (λ (more : Rows). row ∷ more) t.whole }
 
 -- the rows from a key on are the last rows

@@ -1,8 +1,15 @@
 pub mod Order
 pub mod Rows
+pub mod Changes
 pub mod Versions
+pub mod Span
+pub mod Prefixes
 pub mod Touches
 pub mod Good
 pub mod Accepted
 pub mod Place
 pub mod Walk
+pub mod Within
+pub mod Ids
+pub mod Pieces
+pub mod Entities

@@ -1,5 +1,7 @@
+use crate::entity::Entity;
 use crate::resource::Resource;
-use alto_names::{NetName, PidName};
+use alto_addr::Prefix;
+use alto_names::{AneName, Metric, NetName, PidName, PropName};
 
 /// What a row is of. Keys sort by the order of these variants, then by their fields.
 #[derive(Clone, Debug, PartialEq, Eq, PartialOrd, Ord, Drop)]
@@ -12,6 +14,20 @@ pub enum Key {
     Net(NetName),
     /// A PID of a network is declared.
     Pid(NetName, PidName),
+    /// A prefix belongs to a PID of a network.
+    Prefix(NetName, PidName, Prefix),
+    /// A cost metric of a network is declared.
+    Metric(NetName, Metric),
+    /// The cost, in a metric of a network, from a source to a destination.
+    Cost(NetName, Metric, PidName, PidName),
+    /// A property of an entity of a network.
+    Prop(NetName, Entity, PropName),
+    /// An abstract network element of a network is declared (RFC 9275).
+    Ane(NetName, AneName),
+    /// A property of an abstract network element.
+    AneProp(NetName, AneName, PropName),
+    /// The abstract network elements on the way from a source to a destination.
+    Path(NetName, PidName, PidName),
     /// The version that a resource has reached.
     Seq(Resource),
 }

@@ -1,16 +1,22 @@
-ghost use Rattle.std.specs.Prelude.{◌≡◌, [], IfOk, OnOk, length, option_copied, option_map, slice_get};
+ghost use Rattle.std.specs.Prelude.{◌≡◌, ◌++◌, [], IfOk, OnOk, length, option_copied, option_map, slice_get};
+ghost use Rattle.std.specs.BTreeMap.{Updates};
 ghost use Rattle.std.specs.List.Sorted.{IsSearchInRange};
-ghost use Rattle.alto_rows.specs.Rows.{Rows, AreSorted, IsRunOf, value_of, with_value, after, rows_from, rows_past};
-ghost use Rattle.alto_rows.specs.Place.{place_of};
+ghost use Rattle.alto_rows.specs.Changes.{AreOrdered, DoAs, changed, own_row};
+ghost use Rattle.alto_rows.specs.Order.{key_cmp};
+ghost use Rattle.alto_rows.specs.Place.{place_of, rows_before};
+ghost use Rattle.alto_rows.specs.Rows.{Rows, AreSorted, IsRunOf, value_of, after, rows_from, rows_past};
+ghost use Rattle.alto_rows.specs.Span.{count_in, rows_from_span};
 
 use crate::key::Key;
+use crate::span::Span;
 use crate::store::RowStore;
 use crate::value::Value;
 use crate::write::Write;
 use std::alloc::{AllocError, Global};
+use std::collections::BTreeMap;
 use std::marker::Model;
 
-/// Rows in one sorted vector: the plain store. `with` copies it whole.
+/// Rows in one sorted vector: the plain store. `with` copies it whole, in one merge with the writes.
 #[derive(Debug, Drop)]
 pub struct PlainRows {
     rows: Vec<(Key, Value)>,
@@ -55,12 +61,25 @@ impl RowStore for PlainRows {
         tail_after(&self.rows, key)
     }
 
+    fn run_in(&self, span: &Span) -> &[(Key, Value)] {
+        tail_in(&self.rows, span)
+    }
+
+    fn len(&self) -> usize {
+        self.rows.len()
+    }
+
+    fn count_in(&self, span: &Span) -> usize {
+        count_within(&self.rows, span)
+    }
+
+    /// One merge of the rows with the writes, sorted by their keys: n rows and w writes cost n + w log w. Names are
+    /// shared, so a copied row takes no memory for them.
     fn with(&self, alloc: Global, writes: &[Write]) -> Result<PlainRows, AllocError> {
-        let mut rows = copy_of_rows(alloc, &self.rows)?;
-        for write in writes {
-            apply(&mut rows, write)?;
-        }
-        Ok(PlainRows { rows })
+        let changes = last_values(alloc, writes)?;
+        Ok(PlainRows {
+            rows: merged(alloc, &self.rows, changes)?,
+        })
     }
 }
 
@@ -94,40 +113,113 @@ fn tail_after<'a>(rows: &'a [(Key, Value)], key: &Key) -> &'a [(Key, Value)]
     }
 }
 
-/// Writes into sorted rows. A new row moves those behind it.
-fn apply(rows: &mut Vec<(Key, Value)>, write: &Write) -> Result<(), AllocError>
-    requires { AreSorted rows.old.items }
-    ensures { OnOk result (rows.new.items ≡ with_value rows.old.items write.now.key write.now.value) }
+/// The rows that aren't before a span. One binary search.
+fn tail_in<'a>(rows: &'a [(Key, Value)], span: &Span) -> &'a [(Key, Value)]
+    requires { AreSorted rows.now }
+    ensures { result.now ≡ rows_from_span rows.now span.now }
 {
-    match (place(rows, &write.key), &write.value) {
-        (Ok(at), Some(value)) => rows[at].1 = copy_of_value(value)?,
-        (Ok(at), None) => {
-            rows.remove(at);
-        }
-        (Err(at), Some(value)) => rows.insert(at, copy_of_row(&write.key, value)?)?,
-        (Err(_), None) => {}
+    let at = rows.partition_point(|row| span.cmp(&row.0).is_gt());
+    &rows[at..]
+}
+
+/// How many of the rows are in a span. Two binary searches.
+fn count_within(rows: &[(Key, Value)], span: &Span) -> usize
+    requires { AreSorted rows.now }
+    ensures { result ≡ count_in rows.now span.now }
+{
+    tail_in(rows, span).partition_point(|row| !span.cmp(&row.0).is_lt())
+}
+
+/// The rows before a key. One binary search.
+fn head_before<'a>(rows: &'a [(Key, Value)], key: &Key) -> &'a [(Key, Value)]
+    requires { AreSorted rows.now }
+    ensures { result.now ≡ rows_before rows.now key.now }
+{
+    match place(rows, key) {
+        Ok(at) | Err(at) => &rows[..at],
+    }
+}
+
+/// What the last write of each key gives it. w writes cost w log w.
+fn last_values(alloc: Global, writes: &[Write]) -> Result<BTreeMap<Key, Option<Value>>, AllocError>
+    ensures { IfOk result (λ changes. DoAs writes.now changes.entries) }
+{
+    let mut last = BTreeMap::new(alloc);
+    for write in writes {
+        last = with_last(last, write)?;
+    }
+    Ok(last)
+}
+
+/// The changes with one more, in place of an earlier one of its key.
+fn with_last(
+    last: BTreeMap<Key, Option<Value>>,
+    write: &Write,
+) -> Result<BTreeMap<Key, Option<Value>>, AllocError>
+    ensures updates { IfOk result (λ all. Updates key_cmp last all write.now.key (Some write.now.value)) }
+    ensures ordered { IfOk result (λ all. AreOrdered all.entries) }
+{
+    let mut all = last;
+    let (key, value) = copy_of_write(write)?;
+    drop(all.insert(key, value)?);
+    Ok(all)
+}
+
+/// The rows after changes. One pass over both, and a search for each change.
+fn merged(
+    alloc: Global,
+    rows: &[(Key, Value)],
+    changes: BTreeMap<Key, Option<Value>>,
+) -> Result<Vec<(Key, Value)>, AllocError>
+    requires { AreSorted rows.now }
+    ensures { IfOk result (λ all. all.items ≡ changed rows.now changes.entries) }
+{
+    let mut all = Vec::with_capacity(alloc, rows.len())?;
+    let mut rest = rows;
+    for (key, value) in changes {
+        let past = tail_after(rest, &key);
+        push_copies(&mut all, head_before(rest, &key))?;
+        push_own(&mut all, key, value)?;
+        rest = past;
+    }
+    push_copies(&mut all, rest)?;
+    Ok(all)
+}
+
+/// Adds the row of a key, if it has a value.
+fn push_own(rows: &mut Vec<(Key, Value)>, key: Key, value: Option<Value>) -> Result<(), AllocError>
+    ensures { OnOk result (rows.new.items ≡ rows.old.items ++ own_row key value) }
+{
+    if let Some(value) = value {
+        rows.push((key, value))?;
     }
     Ok(())
 }
 
-fn copy_of_value(value: &Value) -> Result<Value, AllocError>
-    ensures { IfOk result (λ copy. copy ≡ value.now) }
+/// Adds copies of rows.
+fn push_copies(copies: &mut Vec<(Key, Value)>, rows: &[(Key, Value)]) -> Result<(), AllocError>
+    ensures { OnOk result (copies.new.items ≡ copies.old.items ++ rows.now) }
 {
-    value.clone()
+    for row in rows {
+        copies.push(copy_of_row(&row.0, &row.1)?)?;
+    }
+    Ok(())
+}
+
+fn copy_of_write(write: &Write) -> Result<(Key, Option<Value>), AllocError>
+    ensures { IfOk result (λ copy. copy ≡ (write.now.key, write.now.value)) }
+{
+    match &write.value {
+        Some(value) => {
+            let (key, value) = copy_of_row(&write.key, value)?;
+            Ok((key, Some(value)))
+        }
+        None => Ok((write.key.clone()?, None)),
+    }
 }
 
 fn copy_of_row(key: &Key, value: &Value) -> Result<(Key, Value), AllocError>
     ensures { IfOk result (λ copy. copy ≡ (key.now, value.now)) }
 {
     Ok((key.clone()?, value.clone()?))
-}
-
-fn copy_of_rows(alloc: Global, rows: &[(Key, Value)]) -> Result<Vec<(Key, Value)>, AllocError>
-    ensures { IfOk result (λ copy. copy.items ≡ rows.now) }
-{
-    let mut copies = Vec::with_capacity(alloc, rows.len())?;
-    for row in rows {
-        copies.push(copy_of_row(&row.0, &row.1)?)?;
-    }
-    Ok(copies)
 }

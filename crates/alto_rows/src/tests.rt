@@ -1,150 +1,245 @@
-use crate::{Batch, Key, PlainRows, Resource, RowStore, Value, Write, touches, walk_from};
-use alto_names::{ImportId, NetName, PidName};
-use json_tree::Name;
+use crate::{
+    Batch, Entity, Key, PlainRows, Resource, RowStore, Span, Value, Write, rows_in, touches,
+    walk_from,
+};
+use alto_addr::read_prefix;
+use alto_names::{ImportId, Metric, NetName, PidName, PropName};
 use std::test::Fail;
 
-fn net(rt: &HostRuntime, text: &[u8]) -> Result<NetName, Fail> {
-    Ok(NetName::read(rt.alloc(), text)?)
+fn net(rt: &HostRuntime, word: &str) -> Result<NetName, Fail> {
+    Ok(NetName::read(rt.alloc(), word.as_bytes())?)
 }
 
-fn pid(rt: &HostRuntime, text: &[u8]) -> Result<PidName, Fail> {
-    Ok(PidName::read(rt.alloc(), text)?)
+fn pid(rt: &HostRuntime, word: &str) -> Result<PidName, Fail> {
+    Ok(PidName::read(rt.alloc(), word.as_bytes())?)
 }
 
-fn put(key: Key, value: Value) -> Write {
-    Write {
-        key,
-        value: Some(value),
+fn metric(rt: &HostRuntime, word: &str) -> Result<Metric, Fail> {
+    Ok(Metric::read(rt.alloc(), word.as_bytes())?)
+}
+
+fn prop(rt: &HostRuntime, word: &str) -> Result<PropName, Fail> {
+    Ok(PropName::read(rt.alloc(), word.as_bytes())?)
+}
+
+/// The first word of a line, and those behind it.
+fn split(line: &str) -> (&str, &str) {
+    line.split_once(' ').unwrap_or((line, ""))
+}
+
+/// The key that a line names by its kind and its fields; a line of no other kind names the window.
+fn key_of(rt: &HostRuntime, line: &str) -> Result<Key, Fail> {
+    let (kind, fields) = split(line);
+    let (of, fields) = split(fields);
+    let (first, fields) = split(fields);
+    let (second, third) = split(fields);
+    match kind {
+        "net" => Ok(Key::Net(net(rt, of)?)),
+        "pid" => Ok(Key::Pid(net(rt, of)?, pid(rt, first)?)),
+        "prefix" => prefix_key(rt, of, first, second),
+        "metric" => Ok(Key::Metric(net(rt, of)?, metric(rt, first)?)),
+        "cost" => cost_key(rt, of, first, second, third),
+        "prop" => prop_key(rt, of, first, second),
+        "seq" => Ok(Key::Seq(Resource::Net(net(rt, of)?))),
+        _ => Ok(Key::Window),
     }
 }
 
-fn delete(key: Key) -> Write {
-    Write { key, value: None }
+fn prefix_key(rt: &HostRuntime, of: &str, owner: &str, prefix: &str) -> Result<Key, Fail> {
+    Ok(Key::Prefix(
+        net(rt, of)?,
+        pid(rt, owner)?,
+        read_prefix(prefix.as_bytes())?,
+    ))
 }
 
-/// The rows from a key on, as they are printed for debugging.
-fn listing(rt: &HostRuntime, rows: &PlainRows, key: &Key) -> Result<String, Fail> {
+fn cost_key(
+    rt: &HostRuntime,
+    of: &str,
+    name: &str,
+    source: &str,
+    destination: &str,
+) -> Result<Key, Fail> {
+    Ok(Key::Cost(
+        net(rt, of)?,
+        metric(rt, name)?,
+        pid(rt, source)?,
+        pid(rt, destination)?,
+    ))
+}
+
+fn prop_key(rt: &HostRuntime, of: &str, entity: &str, name: &str) -> Result<Key, Fail> {
+    Ok(Key::Prop(net(rt, of)?, Entity::Pid(pid(rt, entity)?), prop(rt, name)?))
+}
+
+/// The write that a line names: `-` deletes a key, `.` puts no value, and a digit puts a number.
+fn write_of(rt: &HostRuntime, line: &str) -> Result<Write, Fail> {
+    let (sign, key) = split(line);
+    let value = match sign {
+        "-" => None,
+        "8" => Some(Value::Num(8)),
+        "9" => Some(Value::Num(9)),
+        _ => Some(Value::Unit),
+    };
+    Ok(Write {
+        key: key_of(rt, key)?,
+        value,
+    })
+}
+
+fn writes_of(rt: &HostRuntime, text: &str) -> Result<Vec<Write>, Fail> {
+    let mut writes = Vec::new(rt.alloc());
+    for line in text.lines() {
+        writes.push(write_of(rt, line)?)?;
+    }
+    Ok(writes)
+}
+
+fn rows_of(rt: &HostRuntime, text: &str) -> Result<PlainRows, Fail> {
+    let writes = writes_of(rt, text)?;
+    Ok(PlainRows::empty(rt.alloc())?.with(rt.alloc(), &writes)?)
+}
+
+/// All rows, as they are printed for debugging.
+fn listing(rt: &HostRuntime, rows: &PlainRows) -> Result<String, Fail> {
     let mut text = String::new(rt.alloc());
-    for (key, value) in walk_from(rows, key) {
+    for (key, value) in walk_from(rows, &Key::Epoch) {
         let row = format!(in rt.alloc(); "{key:?}={value:?} ")?;
         text.push_str(row.as_str())?;
     }
     Ok(text)
 }
 
-/// The epoch, a window of 8, and two networks of which the first has a PID and a version.
-fn two_networks(rt: &HostRuntime) -> Result<PlainRows, Fail> {
-    let writes = vec![in rt.alloc();
-        put(Key::Seq(Resource::Net(net(rt, b"east")?)), Value::Num(1)),
-        put(Key::Net(net(rt, b"west")?), Value::Unit),
-        put(Key::Pid(net(rt, b"east")?, pid(rt, b"pid1")?), Value::Unit),
-        put(Key::Net(net(rt, b"east")?), Value::Unit),
-        put(Key::Window, Value::Num(8)),
-        put(Key::Epoch, Value::Text(Name::from_str(rt.alloc(), "e1")?)),
-    ]?;
-    Ok(PlainRows::empty(rt.alloc())?.with(rt.alloc(), &writes)?)
-}
+const ROWS: &str = "9 seq east\n. net west\n. pid east pid1\n. net east\n8 window";
 
 #[test]
 fn writes_make_the_rows(rt: HostRuntime) -> Result<(), Fail> {
-    let first = two_networks(&rt)?;
-    let writes = vec![in rt.alloc();
-        put(Key::Window, Value::Num(16)),
-        delete(Key::Net(net(&rt, b"north")?)),
-        delete(Key::Net(net(&rt, b"west")?)),
-        put(Key::Seq(Resource::Prop(net(&rt, b"east")?)), Value::Num(2)),
-        put(Key::Window, Value::Num(32)),
-    ]?;
+    let first = rows_of(&rt, ROWS)?;
+    let writes = writes_of(&rt, "8 window\n- net north\n- net west\n9 window")?;
     let second = first.with(rt.alloc(), &writes)?;
-    let before = listing(&rt, &first, &Key::Epoch)?;
+    let before = listing(&rt, &first)?;
+    let after = listing(&rt, &second)?;
     assert_eq!(rt;
         before.as_str(),
-        "Epoch=Text(\"e1\") Window=Num(8) Net(east)=Unit Net(west)=Unit Pid(east, pid1)=Unit Seq(Net(east))=Num(1) "
+        "Window=Num(8) Net(east)=Unit Net(west)=Unit Pid(east, pid1)=Unit Seq(Net(east))=Num(9) "
     );
-    let after = listing(&rt, &second, &Key::Epoch)?;
     assert_eq!(rt;
         after.as_str(),
-        "Epoch=Text(\"e1\") Window=Num(32) Net(east)=Unit Pid(east, pid1)=Unit Seq(Net(east))=Num(1) Seq(Prop(east))=Num(2) "
+        "Window=Num(9) Net(east)=Unit Pid(east, pid1)=Unit Seq(Net(east))=Num(9) "
     );
     Ok(())
 }
+
+/// Whether a key has a row, the next row's value, and how many rows there are from the key on and after it.
+fn found(rt: &HostRuntime, rows: &PlainRows, key: &Key) -> Result<String, Fail> {
+    let next = rows.next_from(key).map(|row| row.1);
+    let from = rows.run_from(key).len();
+    let after = rows.run_after(key).len();
+    let has = rows.get(key).is_some();
+    Ok(format!(in rt.alloc(); "{has} {next:?} {from} {after}")?)
+}
+
+const FOUND: &str = "\
+window: true Some(Num(8)) 5 4
+net east: true Some(Unit) 4 3
+net north: false Some(Unit) 3 3
+seq east: true Some(Num(9)) 1 0
+seq west: false None 0 0";
 
 #[test]
 fn rows_are_found_by_their_keys(rt: HostRuntime) -> Result<(), Fail> {
-    let rows = two_networks(&rt)?;
-    let north = Key::Net(net(&rt, b"north")?);
-    let west = Key::Net(net(&rt, b"west")?);
-    let last = Key::Seq(Resource::Net(net(&rt, b"east")?));
-    let past = Key::Seq(Resource::Prop(net(&rt, b"east")?));
-    assert!(rt;
-        rows.get(&Key::Window) == Some(&Value::Num(8)),
-        "the value of a key"
-    );
-    assert!(rt;
-        rows.get(&north).is_none(),
-        "no value of a key that isn't there"
-    );
-    assert!(rt;
-        rows.next_from(&north) == Some((&west, &Value::Unit)),
-        "the next row from a key between two"
-    );
-    assert!(rt;
-        rows.next_from(&west) == Some((&west, &Value::Unit)),
-        "the next row from a key that is there"
-    );
-    assert!(rt;
-        rows.next_from(&past).is_none(),
-        "no next row from past the last"
-    );
-    assert_eq!(rt; rows.run_from(&west).len(), 3);
-    assert_eq!(rt; rows.run_after(&west).len(), 2);
-    assert_eq!(rt; rows.run_from(&past).len(), 0);
-    assert_eq!(rt; rows.run_after(&last).len(), 0);
+    let rows = rows_of(&rt, ROWS)?;
+    for line in FOUND.lines() {
+        let (key, expected) = line.split_once(": ").unwrap_or((line, ""));
+        let got = found(&rt, &rows, &key_of(&rt, key)?)?;
+        assert_eq!(rt; got.as_str(), expected, "at {key}");
+    }
     Ok(())
 }
 
-fn net_key(rt: &HostRuntime, text: &[u8]) -> Result<Key, Fail> {
-    Ok(Key::Net(net(rt, text)?))
+/// Two networks, two metrics and two PIDs whose names begin alike, and a value by which each row is known.
+const ALIKE: &str = "\
+. net metro
+. net metrop
+8 pid metro a
+8 pid metro ab
+. pid metrop a
+. cost metro hop a a
+. cost metro hop a ab
+9 cost metro hop ab a
+. cost metro hop ab ab
+. cost metro hops ab a
+. cost metrop hop ab a";
+
+/// The rows of a span, as they are printed for debugging.
+fn rows_of_span(rt: &HostRuntime, rows: &PlainRows, span: Span) -> Result<String, Fail> {
+    let mut text = String::new(rt.alloc());
+    for (key, value) in rows_in(rows, span) {
+        let row = format!(in rt.alloc(); "{key:?}={value:?} ")?;
+        text.push_str(row.as_str())?;
+    }
+    Ok(text)
 }
 
-fn pid_key(rt: &HostRuntime, text: &[u8]) -> Result<Key, Fail> {
-    Ok(Key::Pid(net(rt, text)?, pid(rt, b"pid1")?))
+fn costs_from(rt: &HostRuntime, of: &str, name: &str, source: &str) -> Result<Span, Fail> {
+    Ok(Span::CostsFrom(net(rt, of)?, metric(rt, name)?, pid(rt, source)?))
 }
 
-fn map_version_key(rt: &HostRuntime, text: &[u8]) -> Result<Key, Fail> {
-    Ok(Key::Seq(Resource::Net(net(rt, text)?)))
+#[test]
+fn a_span_has_just_its_own_rows(rt: HostRuntime) -> Result<(), Fail> {
+    let rows = rows_of(&rt, ALIKE)?;
+    let pids = rows_of_span(&rt, &rows, Span::Pids(net(&rt, "metro")?))?;
+    let costs = rows_of_span(&rt, &rows, costs_from(&rt, "metro", "hop", "ab")?)?;
+    assert_eq!(rt;
+        pids.as_str(),
+        "Pid(metro, a)=Num(8) Pid(metro, ab)=Num(8) "
+    );
+    assert_eq!(rt;
+        costs.as_str(),
+        "Cost(metro, hop, ab, a)=Num(9) Cost(metro, hop, ab, ab)=Unit "
+    );
+    Ok(())
 }
 
-fn property_version_key(rt: &HostRuntime, text: &[u8]) -> Result<Key, Fail> {
-    Ok(Key::Seq(Resource::Prop(net(rt, text)?)))
+/// Whether a key touches the network map, the cost map of `hop` and the property map of `metro`.
+const TOUCHED: &str = "\
+window: false false false
+net metro: true false false
+net metrop: false false false
+pid metro a: true false false
+prefix metro a 192.0.2.0/24: true false false
+metric metro hop: false true false
+metric metro hops: false false false
+cost metro hop a ab: false true false
+cost metrop hop a ab: false false false
+prop metro a country: false false true
+seq metro: true true true
+seq metrop: false false false";
+
+fn is_touched(rt: &HostRuntime, of: Resource, line: &str) -> Result<bool, Fail> {
+    Ok(touches(&of, &key_of(rt, line)?))
 }
 
-/// Whether the key touches the network map and the property map of the network `east`.
-fn touched(rt: &HostRuntime, key: &Key) -> Result<(bool, bool), Fail> {
-    let network_map = Resource::Net(net(rt, b"east")?);
-    let property_map = Resource::Prop(net(rt, b"east")?);
-    Ok((touches(&network_map, key), touches(&property_map, key)))
+/// Which of the three maps the key of a line touches.
+fn touched(rt: &HostRuntime, line: &str) -> Result<(bool, bool, bool), Fail> {
+    let map = is_touched(rt, Resource::Net(net(rt, "metro")?), line)?;
+    let costs = is_touched(
+        rt,
+        Resource::Cost(net(rt, "metro")?, metric(rt, "hop")?),
+        line,
+    )?;
+    let properties = is_touched(rt, Resource::Prop(net(rt, "metro")?), line)?;
+    Ok((map, costs, properties))
 }
 
 #[test]
 fn a_resource_is_touched_by_its_own_keys(rt: HostRuntime) -> Result<(), Fail> {
-    assert_eq!(rt; touched(&rt, &Key::Window)?, (false, false));
-    assert_eq!(rt; touched(&rt, &net_key(&rt, b"east")?)?, (true, false));
-    assert_eq!(rt; touched(&rt, &net_key(&rt, b"west")?)?, (false, false));
-    assert_eq!(rt; touched(&rt, &pid_key(&rt, b"east")?)?, (true, false));
-    assert_eq!(rt; touched(&rt, &pid_key(&rt, b"west")?)?, (false, false));
-    assert_eq!(rt;
-        touched(&rt, &map_version_key(&rt, b"east")?)?,
-        (true, true)
-    );
-    assert_eq!(rt;
-        touched(&rt, &map_version_key(&rt, b"west")?)?,
-        (false, false)
-    );
-    assert_eq!(rt;
-        touched(&rt, &property_version_key(&rt, b"east")?)?,
-        (false, false)
-    );
+    for line in TOUCHED.lines() {
+        let (key, expected) = line.split_once(": ").unwrap_or((line, ""));
+        let (map, costs, properties) = touched(&rt, key)?;
+        let got = format!(in rt.alloc(); "{map} {costs} {properties}")?;
+        assert_eq!(rt; got.as_str(), expected, "at {key}");
+    }
     Ok(())
 }
 
@@ -152,19 +247,19 @@ fn crosses_threads<T: Send + Sync>(_value: &T) {}
 
 #[test]
 fn rows_and_batches_cross_threads(rt: HostRuntime) -> Result<(), Fail> {
+    let rows = PlainRows::empty(rt.alloc())?;
     let batch = Batch {
         id: ImportId::read(rt.alloc(), b"first")?,
         digest: [0; 32],
         moment: 1,
-        writes: vec![in rt.alloc(); put(Key::Window, Value::Num(8))]?,
+        writes: Vec::new(rt.alloc()),
     };
-    let rows = PlainRows::empty(rt.alloc())?.with(rt.alloc(), &batch.writes)?;
-    crosses_threads(&Key::Window);
-    crosses_threads(&Resource::Net(net(&rt, b"east")?));
-    crosses_threads(&Value::Unit);
-    crosses_threads(&delete(Key::Window));
     crosses_threads(&batch);
+    crosses_threads(&Key::Window);
+    crosses_threads(&Entity::Pid(pid(&rt, "east")?));
+    crosses_threads(&Value::Unit);
+    crosses_threads(&Span::Nets);
+    crosses_threads(&rows_in(&rows, Span::Nets));
     crosses_threads(&rows);
-    crosses_threads(&walk_from(&rows, &Key::Epoch));
     Ok(())
 }

@@ -1,14 +1,17 @@
 ghost use Rattle.std.specs.Prelude.{◌≡◌};
 ghost use Rattle.std.specs.Iterator.{YieldsFirstRef, item_count};
-ghost use Rattle.alto_rows.specs.Rows.{IsRunOf, rows_from, rows_past};
+ghost use Rattle.alto_rows.specs.Rows.{AreSorted, IsRunOf, rows_from, rows_past};
+ghost use Rattle.alto_rows.specs.Span.{rows_from_span};
 ghost use Rattle.alto_rows.specs.Walk.{Begins};
 
 use crate::key::Key;
+use crate::span::Span;
 use crate::store::RowStore;
 use crate::value::Value;
 use std::marker::Model;
 
-/// A walk over the rows of a store, in the order of their keys. A contract sees it as the list of the rows that are left.
+/// A walk over the rows of a store, in the order of their keys. A contract sees it as the list of the rows that are
+/// left.
 #[derive(Drop)]
 pub struct Walk<'a, R: RowStore> {
     store: &'a R,
@@ -33,6 +36,17 @@ pub fn walk_from<'a, R: RowStore>(store: &'a R, key: &Key) -> Walk<'a, R>
     Walk {
         store,
         run: store.run_from(key),
+    }
+}
+
+/// The rows that aren't before a span.
+pub(crate) fn walk_from_span<'a, R: RowStore>(store: &'a R, span: &Span) -> Walk<'a, R>
+    ensures rows { result ≡ rows_from_span (R.rows store.now) span.now }
+    ensures sorted { AreSorted (R.rows store.now) }
+{
+    Walk {
+        store,
+        run: store.run_in(span),
     }
 }
 

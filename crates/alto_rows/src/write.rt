@@ -30,5 +30,6 @@ impl Model for Batch {
 
     ghost Value = { Accepted };
 
-    ghost view = { λ batch. record { id = batch.id; digest = batch.digest; moment = batch.moment; writes = batch.writes.items } };
+    ghost view = { λ batch.
+        record { id = batch.id; digest = batch.digest; moment = batch.moment; writes = batch.writes.items } };
 }

@@ -1,3 +1,2 @@
 pub mod DraftLemmas
-pub mod ResourceLemmas
 pub mod CompileLemmas

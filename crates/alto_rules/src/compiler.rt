@@ -21,7 +21,7 @@ const MOST_WRITES: usize = 524_288;
 /// of what they touch. `past` is what is kept before the batch.
 ///
 /// Fails with the first rule that is broken, edit by edit, and of the batch as a whole after all edits. Costs
-/// O(e log(r + e)) for e edits on r rows.
+/// O((e + m) log(r + e)) for e edits on r rows, m of which declare metrics of the networks that the edits touch.
 pub fn compile<R: RowStore>(
     alloc: Global,
     rows: &R,

@@ -24,7 +24,7 @@ use Rattle.alto_rows.specs.declared.value.Value.{Value}
 use Rattle.alto_rows.specs.Order.{key_cmp, name_cmp, same_name}
 use Rattle.alto_rows.specs.Rows.{Rows, has_row}
 use Rattle.alto_rows.proofs.OrderLemmas.{name_cmp_exact}
-use Rattle.net_docs.specs.NetworkMap.{pid_in, pids_of}
+use Rattle.net_docs.specs.NetworkMap.{pids_of}
 use Rattle.edge_patch.specs.Merge.{touched_group, touched_groups, group_at, groups_at}
 
 -- ---- members that are named for items of a list, each with a value of its name
@@ -81,10 +81,6 @@ or_false false = refl
 -- a key touches a PID's group where it is the key of the PID
 touches_own : (net pid : List ℕ) (at : Key) → list_any (same_name pid) (cons_option (touched_group net at) []) ≡ is_at (key_cmp (key.Pid net pid)) at
 unfolding key_cmp
-touches_own net pid key.Epoch = refl
-touches_own net pid key.Window = refl
-touches_own net pid (key.Net of) = refl
-touches_own net pid (key.Seq of) = refl
 touches_own net pid (key.Pid of other) = by (name_cmp net of) refl (tie_as_same net of)
   where
     by : (o : Ordering) → name_cmp net of ≡ o → is_eq (name_cmp net of) ≡ same_name net of
@@ -92,6 +88,7 @@ touches_own net pid (key.Pid of other) = by (name_cmp net of) refl (tie_as_same 
     by Less e tie = rw (sym tie ∙ ap is_eq e, e) refl
     by Greater e tie = rw (sym tie ∙ ap is_eq e, e) refl
     by Equal e tie = rw (sym tie ∙ ap is_eq e, e) (or_false (same_name pid other) ∙ sym (tie_as_same pid other))
+touches_own net pid _ = refl
 
 -- what is among the names that items of a list give
 any_given : {X : Type 0} (names : X → Option (List ℕ)) (test : X → Bool) (pid : List ℕ) → ((x : X) → list_any (same_name pid) (cons_option (names x) []) ≡ test x)
@@ -109,13 +106,16 @@ any_given names test pid each (x ∷ xs) = by (names x) refl (each x) (any_given
 pub touched_where : (net pid : List ℕ) (keys : List Key) → list_any (same_name pid) (touched_groups net keys) ≡ list_any (is_at (key_cmp (key.Pid net pid))) keys
 touched_where net pid keys = any_given (touched_group net) (is_at (key_cmp (key.Pid net pid))) pid (touches_own net pid) keys
 
--- a row declares a PID as its key touches the group
-declares_own : (net : List ℕ) (row : Key × Value) → pid_in net row ≡ touched_group net row.0
-declares_own net (key.Epoch, v) = refl
-declares_own net (key.Window, v) = refl
-declares_own net (key.Net of, v) = refl
-declares_own net (key.Seq of, v) = refl
-declares_own net (key.Pid of pid, v) = refl
+-- the PIDs of a network are the groups that the keys of the rows touch
+declared_groups : (net : List ℕ) (rows : Rows) → pids_of rows net ≡ filter_map (λ row. touched_group net row.0) rows
+declared_groups net [] = refl
+declared_groups net ((key.Pid of pid, v) ∷ rows) = by (same_name net of) refl (declared_groups net rows)
+  where
+    by : (b : Bool) → same_name net of ≡ b → pids_of rows net ≡ filter_map (λ row. touched_group net row.0) rows
+        → pids_of ((key.Pid of pid, v) ∷ rows) net ≡ filter_map (λ row. touched_group net row.0) ((key.Pid of pid, v) ∷ rows)
+    by true e below = rw e (ap (λ (more : List (List ℕ)). pid ∷ more) below)
+    by false e below = rw e below
+declared_groups net (_ ∷ rows) = declared_groups net rows
 
 -- some row has a key, as it is looked up
 looked_up : (test : Key → Bool) (rows : Rows) → list_any (λ row. test row.0) rows ≡ is_some (lookup test rows)
@@ -129,9 +129,9 @@ looked_up test (row ∷ rows) = by (test row.0) (looked_up test rows)
 -- a PID is among the map's where it has a row
 pub stands_where : (net pid : List ℕ) (rows : Rows) → list_any (same_name pid) (pids_of rows net) ≡ has_row rows (key.Pid net pid)
 stands_where net pid rows =
-    any_given (pid_in net) (λ row. is_at (key_cmp (key.Pid net pid)) row.0) pid
-    (λ row. ap (λ o. list_any (same_name pid) (cons_option o [])) (declares_own net row) ∙ touches_own net pid row.0) rows
-    ∙ looked_up (is_at (key_cmp (key.Pid net pid))) rows
+    ap (list_any (same_name pid)) (declared_groups net rows)
+    ∙ (any_given (λ (row : Key × Value). touched_group net row.0) (λ row. is_at (key_cmp (key.Pid net pid)) row.0) pid (λ row. touches_own net pid row.0) rows
+    ∙ looked_up (is_at (key_cmp (key.Pid net pid))) rows)
 
 -- ---- the groups after a patch
 

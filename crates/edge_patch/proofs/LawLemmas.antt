@@ -10,7 +10,7 @@ use Rattle.alto_rows.specs.declared.key.Key.{Key}
 use Rattle.alto_rows.specs.declared.key.Key.TheVariants as key
 use Rattle.alto_rows.specs.declared.resource.Resource.{Resource}
 use Rattle.alto_rows.specs.declared.resource.Resource.TheVariants as resource
-use Rattle.alto_rows.specs.Order.{key_cmp, name_cmp}
+use Rattle.alto_rows.specs.Order.{key_cmp, name_cmp, same_name}
 use Rattle.alto_rows.specs.Rows.{Rows}
 use Rattle.alto_rows.specs.Touches.{touches}
 use Rattle.edge_patch.specs.Merge.{is_version_key, touched_group, touched_groups, merge_form}
@@ -21,19 +21,16 @@ use Rattle.edge_patch.proofs.MergeLemmas.{touching_key}
 -- a key that doesn't touch the network map isn't that of its version
 no_version : (net : List ℕ) (at : Key) → touches (resource.Net net) at ≡ false → is_version_key net at ≡ false
 no_version net (key.Seq (resource.Net of)) no_touch = no_touch
-no_version net (key.Seq (resource.Prop of)) no_touch = refl
-no_version net (key.Pid of pid) no_touch = refl
-no_version net (key.Net of) no_touch = refl
-no_version net key.Epoch no_touch = refl
-no_version net key.Window no_touch = refl
+no_version net _ no_touch = refl
 
 -- nor does it touch a group
 no_group : (net : List ℕ) (at : Key) → touches (resource.Net net) at ≡ false → touched_group net at ≡ None
-no_group net (key.Pid of pid) no_touch = rw no_touch refl
-no_group net (key.Seq of) no_touch = refl
-no_group net (key.Net of) no_touch = refl
-no_group net key.Epoch no_touch = refl
-no_group net key.Window no_touch = refl
+no_group net (key.Pid of pid) no_touch = by (same_name net of) refl
+  where
+    by : (b : Bool) → same_name net of ≡ b → touched_group net (key.Pid of pid) ≡ None
+    by true e = let touched : touches (resource.Net net) (key.Pid of pid) ≡ true = rw e refl in cc
+    by false e = rw e refl
+no_group net _ no_touch = refl
 
 -- the version is among the keys where it is among those that touch the map
 version_among : (net : List ℕ) (keys : List Key) → list_any (is_version_key net) keys ≡ list_any (is_version_key net) (filter (touches (resource.Net net)) keys)
@@ -57,7 +54,7 @@ groups_among net (first ∷ keys) = by (groups_among net keys) (touches (resourc
 
 pub only_touching : (of : Resource) (rows : Rows) (keys : List Key) → merge_form of rows keys ≡ merge_form of rows (filter (touches of) keys)
 only_touching (resource.Net net) rows keys = rw (← version_among net keys, ← groups_among net keys) refl
-only_touching (resource.Prop net) rows keys = refl
+only_touching _ rows keys = refl
 
 -- none passes where none does
 none_pass : (test : Key → Bool) (keys : List Key) → list_any test keys ≡ false → filter test keys ≡ []
@@ -71,7 +68,7 @@ none_pass test (first ∷ keys) none = by (none_pass test keys) (test first) ref
 -- a form over no key
 over_none : (of : Resource) (rows : Rows) → merge_form of rows [] ≡ object_of []
 over_none (resource.Net net) rows = refl
-over_none (resource.Prop net) rows = refl
+over_none _ rows = refl
 
 pub untouched : (of : Resource) (rows : Rows) (keys : List Key) → list_any (touches of) keys ≡ false → merge_form of rows keys ≡ object_of []
 untouched of rows keys none = only_touching of rows keys ∙ (ap (merge_form of rows) (none_pass (touches of) keys none) ∙ over_none of rows)

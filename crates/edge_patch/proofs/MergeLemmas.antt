@@ -47,10 +47,7 @@ touching_key net pid (key.Pid of other) touched = by (same_name net of) refl
     by false e =
         let is : touched_group net (key.Pid of other) ≡ None = rw e refl in
         cc
-touching_key net pid key.Epoch touched = cc
-touching_key net pid key.Window touched = cc
-touching_key net pid (key.Net of) touched = cc
-touching_key net pid (key.Seq of) touched = cc
+touching_key net pid _ touched = cc
 
 -- one key more that touches a group
 pub groups_more : (rows : Rows) (net pid : List ℕ) (keys : List Key) (i : ℕ) (d : Key) → i < length keys → touched_group net (get_or keys i d) ≡ Some pid

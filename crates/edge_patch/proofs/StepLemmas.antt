@@ -45,12 +45,8 @@ parts_lead_on net tag next false (group ∷ more) groups others same lead = rw (
 -- the key of the version is the one that is looked for
 version_own : (net : List ℕ) (at : Key) → is_at (key_cmp (key.Seq (resource.Net net))) at ≡ is_version_key net at
 unfolding key_cmp resource_cmp
-version_own net key.Epoch = refl
-version_own net key.Window = refl
-version_own net (key.Net of) = refl
-version_own net (key.Pid of pid) = refl
 version_own net (key.Seq (resource.Net of)) = tie_as_same net of
-version_own net (key.Seq (resource.Prop of)) = refl
+version_own net _ = refl
 
 -- where the version isn't among the keys, the tag is the same
 same_tag : (net : List ℕ) (before later : Rows) (keys : List Key) → DifferBy keys before later (resource.Net net) → list_any (is_version_key net) keys ≡ false
@@ -66,5 +62,5 @@ unfolding network_map
 step_leads_on (resource.Net net) before later keys has differ =
     parts_lead_on net (tag_of before (resource.Net net)) (tag_of later (resource.Net net)) (list_any (is_version_key net) keys) (groups_at later net keys)
     (map_groups before net) (map_groups later net) (same_tag net before later keys differ)
-    (groups_lead_on net before later keys (λ pid none. ap is_some (differ.same (key.Pid net pid) (nat_list_eq_equiv.refl net) none)))
-step_leads_on (resource.Prop net) before later keys has differ = cc
+    (groups_lead_on net before later keys (λ pid none. ap is_some (differ.same (key.Pid net pid) (rw (nat_list_eq_equiv.refl net) refl) none)))
+step_leads_on _ before later keys has differ = cc

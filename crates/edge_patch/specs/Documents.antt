@@ -10,9 +10,9 @@ use Rattle.net_docs.specs.NetworkMap.{network_map}
 -- the kinds of resource that have a document
 abbrev pub has_document : Resource → Bool
 has_document (resource.Net net) = true
-has_document (resource.Prop net) = false
+has_document _ = false
 
 -- the document, empty where the kind has none yet
 abbrev pub document : Resource → Rows → Data
 document (resource.Net net) rows = network_map rows net
-document (resource.Prop net) rows = object_of []
+document _ rows = object_of []

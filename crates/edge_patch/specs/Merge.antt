@@ -60,4 +60,4 @@ groups_at rows net keys = map (λ pid. (pid, group_at rows net pid)) (touched_gr
 abbrev pub merge_form : Resource → Rows → List Key → Data
 merge_form (resource.Net net) rows keys =
     object_of (meta_part net keys (net_meta rows net) ++ section_part (codes "network-map") (groups_at rows net keys))
-merge_form (resource.Prop net) rows keys = object_of []
+merge_form _ rows keys = object_of []

@@ -23,6 +23,6 @@ pub fn snapshot<R: RowStore>(
 {
     match resource {
         Resource::Net(net) => net_doc(alloc, rows, net),
-        Resource::Prop(_) => unreachable!(),
+        _ => unreachable!(),
     }
 }

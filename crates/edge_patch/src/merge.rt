@@ -33,7 +33,7 @@ pub fn merge_edge<R: RowStore>(
 {
     match resource {
         Resource::Net(net) => net_edge(alloc, net, after, keys),
-        Resource::Prop(_) => unreachable!(),
+        _ => unreachable!(),
     }
 }
 

@@ -187,11 +187,11 @@ breaks_at_stray text done left read names parts front stray =
         rest = 48 ∷ [];
         names = names ++ (read ++ 126 ∷ []) ∷ [];
         spells =
-          pointer_text-more names (read ++ 126 ∷ [])
-          ∙ (ap (λ t. pointer_text names ++ 47 ∷ t) (flat_map-append escaped read (126 ∷ []))
-          ∙ (sym (append_assoc (pointer_text names) (47 ∷ token_of read) (126 ∷ 48 ∷ []))
-          ∙ (ap (λ s. s ++ 126 ∷ 48 ∷ []) (sym front)
-          ∙ (sym (append_assoc done (126 ∷ []) (48 ∷ [])) ∙ ap (λ s. s ++ 48 ∷ []) (sym cut)))));
+            pointer_text-more names (read ++ 126 ∷ [])
+            ∙ (ap (λ t. pointer_text names ++ 47 ∷ t) (flat_map-append escaped read (126 ∷ []))
+            ∙ (sym (append_assoc (pointer_text names) (47 ∷ token_of read) (126 ∷ 48 ∷ []))
+            ∙ (ap (λ s. s ++ 126 ∷ 48 ∷ []) (sym front)
+            ∙ (sym (append_assoc done (126 ∷ []) (48 ∷ [])) ∙ ap (λ s. s ++ 48 ∷ []) (sym cut)))));
       };
       longest = λ more within begun. by more within begun (cases_lt (length done + 1) more);
     }
@@ -220,6 +220,7 @@ breaks_at_start (c ∷ text) filled other =
     by : (more : List ℕ) (names : List (List ℕ)) → EndsToken (pointer_text names) → pointer_text names ≡ c ∷ more → (c ∷ text ≢ 47 ∷ text) → ⊥
     by more names (inl none) same apart = let h : [] ≡ c ∷ more = sym none ∙ same in cc
     by more names (inr rest) same apart = let h : 47 ∷ rest.0 ≡ c ∷ more = sym rest.1 ∙ same in apart (ap (λ b. b ∷ text) (sym (heads 47 c _ _ h)))
+
     at : (more : ℕ) → more ≤ length (c ∷ text) → BeginsPointer (take more (c ∷ text)) → more ≤ 0
     at zero within begun = omega arith
     at (suc k) within begun = absurd (by (take k text ++ begun.rest) begun.names (EndsToken-pointer_text begun.names) begun.spells (other text))

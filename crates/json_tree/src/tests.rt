@@ -18,10 +18,7 @@ fn of_a_repeated_name_the_last_value_stays(rt: HostRuntime) -> Result<(), Fail> 
     let mut members = Members::new(alloc);
     members.put(alloc, "b", Tree::number(1))?;
     members.put(alloc, "é", Tree::null())?;
-    members.put_name(
-        Name::from_str(alloc, "a")?,
-        Tree::list(Vec::new(alloc)),
-    )?;
+    members.put_name(Name::from_str(alloc, "a")?, Tree::list(Vec::new(alloc)))?;
     members.put(alloc, "b", Tree::boolean(false))?;
     let tree = members.into_tree().clone()?;
     let expected = r#"{"a":[],"b":false,"é":null}"#;

@@ -3,20 +3,21 @@ use Rattle.std.proofs.Common.{◌≡◌, ℕ, refl, ap, sym, ◌∙◌}
 use Rattle.std.proofs.lemmas.List.Kept.{IsStrictlySortedBy-filter}
 use Rattle.std.proofs.lemmas.Map.Entries.{lookup-filter-keys}
 use Rattle.std.specs.Cmp.Lexicographic.{nat_list_eq_equiv}
-use Rattle.std.specs.Prelude.{Bool, true, false, cond, List, [], ◌∷◌, filter, Option, Some, None}
+use Rattle.std.specs.Prelude.{Bool, true, false, cond, List, [], ◌∷◌, filter, None}
 use Rattle.std.specs.BTreeMap.{is_at}
 use Rattle.std.specs.Map.{keys_of}
 use Rattle.alto_rows.specs.declared.key.Key.{Key}
 use Rattle.alto_rows.specs.declared.key.Key.TheVariants as key
 use Rattle.alto_rows.specs.declared.resource.Resource.TheVariants as resource
-use Rattle.alto_rows.specs.declared.value.Value.{Value}
+use Rattle.alto_rows.specs.declared.span.Span.TheVariants as span
 use Rattle.alto_rows.specs.Order.{key_cmp}
 use Rattle.alto_rows.specs.Rows.{Rows, AreSorted, value_of}
+use Rattle.alto_rows.specs.Span.{is_in, rows_in}
 use Rattle.alto_rows.specs.Touches.{touches}
 use Rattle.alto_rows.proofs.OrderLemmas.{one_key}
 use Rattle.alto_rows.proofs.RowsLemmas.{same_rows}
 use Rattle.net_docs.specs.Laws.{MapIsOfItsKeys}
-use Rattle.net_docs.specs.NetworkMap.{pid_in, pids_of, network_map}
+use Rattle.net_docs.specs.NetworkMap.{network_map}
 
 -- the rows whose keys pass a test
 abbrev rows_passing : (Key → Bool) → Rows → Rows
@@ -52,28 +53,10 @@ same_passing test rows others s t same =
     by at true e = same at e
     by at false e = refl
 
--- a PID of a network touches its map
-pid_touches : (net : List ℕ) (row : Key × Value) → touches (resource.Net net) row.0 ≡ false → pid_in net row ≡ None
-pid_touches net (key.Epoch, v) e = refl
-pid_touches net (key.Window, v) e = refl
-pid_touches net (key.Net of, v) e = refl
-pid_touches net (key.Pid of pid, v) e = rw e refl
-pid_touches net (key.Seq of, v) e = refl
-
--- so the PIDs are those of the rows that touch it
-pids_of-passing : (net : List ℕ) (rows : Rows) → pids_of rows net ≡ pids_of (rows_passing (touches (resource.Net net)) rows) net
-pids_of-passing net [] = refl
-pids_of-passing net (row ∷ rows) = by (touches (resource.Net net) row.0) refl (pids_of-passing net rows)
-  where
-    own : (o : Option (List ℕ)) → pid_in net row ≡ o → pids_of rows net ≡ pids_of (rows_passing (touches (resource.Net net)) rows) net
-        → pids_of (row ∷ rows) net ≡ pids_of (row ∷ rows_passing (touches (resource.Net net)) rows) net
-    own None e below = rw e below
-    own (Some pid) e below = rw e (ap (λ (more : List (List ℕ)). pid ∷ more) below)
-
-    by : (b : Bool) → touches (resource.Net net) row.0 ≡ b → pids_of rows net ≡ pids_of (rows_passing (touches (resource.Net net)) rows) net
-        → pids_of (row ∷ rows) net ≡ pids_of (rows_passing (touches (resource.Net net)) (row ∷ rows)) net
-    by true e below = rw e (own (pid_in net row) refl below)
-    by false e below = rw (e, pid_touches net row e) below
+-- the row of a PID touches the map of its network
+pids_touch : (net : List ℕ) (at : Key) → is_in (span.Pids net) at ≡ true → touches (resource.Net net) at ≡ true
+pids_touch net (key.Pid of pid) own = rw own refl
+pids_touch net _ own = cc
 
 -- a network map is read from the epoch and from the keys that touch it
 pub same_map : MapIsOfItsKeys
@@ -81,8 +64,6 @@ unfolding network_map
 same_map rows others net s t epoch same =
     let version : value_of rows (key.Seq (resource.Net net)) ≡ value_of others (key.Seq (resource.Net net)) =
     same (key.Seq (resource.Net net)) (nat_list_eq_equiv.refl net) in
-    let pids : pids_of rows net ≡ pids_of others net =
-    pids_of-passing net rows
-    ∙ (ap (λ (passing : Rows). pids_of passing net) (same_passing (touches (resource.Net net)) rows others s t same)
-    ∙ sym (pids_of-passing net others)) in
+    let pids : rows_in rows (span.Pids net) ≡ rows_in others (span.Pids net) =
+    same_passing (is_in (span.Pids net)) rows others s t (λ at own. same at (pids_touch net at own)) in
     rw (epoch, version, pids) refl

@@ -1,5 +1,5 @@
--- The network map of a network (RFC 7285, section 11.2.1.6), as a filter of the rows.
-use Rattle.std.specs.Prelude.{ℕ, List, [], ◌∷◌, Option, Some, None, map, if◌then◌else◌, codes}
+-- The network map of a network (RFC 7285, section 11.2.1.6), of the rows of its PIDs.
+use Rattle.std.specs.Prelude.{ℕ, List, [], ◌∷◌, Option, Some, None, map, codes}
 use Rattle.std.specs.List.{filter_map}
 use Rattle.serde_json.specs.Data.{Data, string}
 use Rattle.json_tree.specs.Document.{object_of}
@@ -7,18 +7,19 @@ use Rattle.alto_rows.specs.declared.key.Key.{Key}
 use Rattle.alto_rows.specs.declared.key.Key.TheVariants as key
 use Rattle.alto_rows.specs.declared.resource.Resource.TheVariants as resource
 use Rattle.alto_rows.specs.declared.value.Value.{Value}
-use Rattle.alto_rows.specs.Order.{same_name}
+use Rattle.alto_rows.specs.declared.span.Span.TheVariants as span
 use Rattle.alto_rows.specs.Rows.{Rows}
+use Rattle.alto_rows.specs.Span.{rows_in}
 use Rattle.alto_rows.specs.Versions.{tag_of}
 
--- the PID that a row declares in a network
-abbrev pub pid_in : List ℕ → Key × Value → Option (List ℕ)
-pid_in net (key.Pid of pid, _) = if same_name net of then Some pid else None
-pid_in net _ = None
+-- the PID that a row declares
+abbrev pub pid_declared : Key × Value → Option (List ℕ)
+pid_declared (key.Pid net pid, v) = Some pid
+pid_declared _ = None
 
 -- the PIDs of a network, in the order of the rows
 abbrev pub pids_of : Rows → List ℕ → List (List ℕ)
-pids_of rows net = filter_map (pid_in net) rows
+pids_of rows net = filter_map pid_declared (rows_in rows (span.Pids net))
 
 -- the version tag of a network's map: its resource id, which is the network's name, and the tag of its version (section 10.3)
 abbrev pub version_tag : Rows → List ℕ → Data

@@ -1,5 +1,5 @@
-ghost use Rattle.std.specs.Prelude.{◌≡◌, IfOk};
-ghost use Rattle.alto_rows.specs.Versions.{epoch_of, version_of, tag_of};
+ghost use Rattle.std.specs.Prelude.{◌≡◌, IfOk, option_copied};
+ghost use Rattle.alto_rows.specs.Versions.{epoch_of, number_in, version_of, tag_of};
 
 use alto_rows::{Key, Resource, RowStore, Value};
 use json_tree::Name;
@@ -29,8 +29,16 @@ pub fn epoch<R: RowStore>(rows: &R) -> &str
 fn version<R: RowStore>(rows: &R, of: &Resource) -> Result<u64, AllocError>
     ensures { IfOk result (λ number. number ≡ version_of (R.rows rows.now) of.now) }
 {
-    match rows.get(&Key::Seq(of.clone()?)) {
-        Some(Value::Num(number)) => Ok(*number),
-        _ => Ok(0),
+    let key = Key::Seq(of.clone()?);
+    Ok(number_in(rows.get(&key)))
+}
+
+/// A row's number, 0 where it has none.
+fn number_in(value: Option<&Value>) -> u64
+    ensures { result ≡ number_in (option_copied value.entry) }
+{
+    match value {
+        Some(Value::Num(number)) => *number,
+        _ => 0,
     }
 }

@@ -5,14 +5,17 @@ use Rattle.alto_rows.specs.declared.key.Key.{Key}
 use Rattle.alto_rows.specs.declared.key.Key.TheVariants as key
 use Rattle.alto_rows.specs.declared.resource.Resource.{Resource}
 use Rattle.alto_rows.specs.declared.resource.Resource.TheVariants as resource
+use Rattle.alto_rows.specs.declared.value.Value.{Value}
 use Rattle.alto_rows.specs.declared.value.Value.TheVariants as value
 use Rattle.alto_rows.specs.declared.write.Write.{Write}
-use Rattle.alto_rows.specs.Good.{AreGood, Fits}
+use Rattle.alto_rows.specs.Good.{AreGood, Fits, needs}
 use Rattle.alto_rows.specs.Order.{key_cmp}
 use Rattle.alto_rows.specs.Rows.{AreSorted, value_of, has_row, after}
 use Rattle.alto_rows.specs.Versions.{is_declared}
 use Rattle.alto_rows.proofs.WriteLemmas.{sorted_after}
-use Rattle.std.specs.Prelude.{IfSome}
+use Rattle.std.proofs.lemmas.List.Elements.{All-from_recursion}
+use Rattle.std.specs.List.{AllByRecursion}
+use Rattle.std.specs.Prelude.{IfSome, true}
 use Rattle.std.specs.List.Sorted.{IsStrictlySortedBy}
 use Rattle.alto_rules.proofs.tests.opening.Goals as goal
 
@@ -30,16 +33,23 @@ none_sorted = tt
 opening_fits : (epoch : List ℕ) (window : ℕ) → IsEpoch epoch → 2 ≤ window → window ≤ 32
     → (at : Key) → IfSome (value_of (after [] (opening epoch window)) at) (Fits at)
 unfolding key_cmp
-opening_fits epoch window e low high key.Epoch = e
-opening_fits epoch window e low high key.Window = (low, high)
-opening_fits epoch window e low high (key.Net net) = tt
-opening_fits epoch window e low high (key.Pid net pid) = tt
-opening_fits epoch window e low high (key.Seq of) = tt
+opening_fits epoch window e low high key.Epoch = (tt, e)
+opening_fits epoch window e low high key.Window = (tt, (low, high))
+opening_fits epoch window e low high _ = tt
 
-opening_versions : (epoch : List ℕ) (window : ℕ) (of : Resource) → has_row (after [] (opening epoch window)) (key.Seq of) ≡ is_declared (after [] (opening epoch window)) of
+opening_declared : (epoch : List ℕ) (window : ℕ) (at : Key) (v : Value) → value_of (after [] (opening epoch window)) at ≡ Some v
+    → AllByRecursion (λ need. has_row (after [] (opening epoch window)) need ≡ true) (needs at v)
 unfolding key_cmp
-opening_versions epoch window (resource.Net net) = refl
-opening_versions epoch window (resource.Prop net) = refl
+opening_declared epoch window key.Epoch v h = tt
+opening_declared epoch window key.Window v h = tt
+opening_declared epoch window _ v h = cc
+
+opening_versions : (epoch : List ℕ) (window : ℕ) (of : Resource) → is_declared (after [] (opening epoch window)) of ≡ true
+    → has_row (after [] (opening epoch window)) (key.Seq of) ≡ true
+unfolding key_cmp
+opening_versions epoch window (resource.Net net) h = cc
+opening_versions epoch window (resource.Cost net metric) h = cc
+opening_versions epoch window (resource.Prop net) h = cc
 
 opening_good : (epoch : List ℕ) (window : ℕ) → IsEpoch epoch → 2 ≤ window → window ≤ 32 → AreGood (after [] (opening epoch window))
 unfolding key_cmp
@@ -48,7 +58,8 @@ opening_good epoch window e low high = record {
   fit = opening_fits epoch window e low high;
   epoch = refl;
   window = refl;
-  nets_declared = λ net pid h. cc;
+  declared = λ at v h. All-from_recursion (λ (need : Key). has_row (after [] (opening epoch window)) need ≡ true) (needs at v) (opening_declared epoch window at v h);
+  one_pid = λ net first second prefix h g. cc;
   versions = opening_versions epoch window;
 }
 

@@ -14,7 +14,7 @@ same_some (Some x) = refl
 pub returns-in-Some : goal.returns-in-Some
 returns-in-Some g c =
     rw (← c.self.view_is)
-    (has_row-written c.self.inside.writes.items c.self.inside.written c.self.inside.touched _ c.args.key.now c.in-Some.has.now c.self.invariant c.requires
+    (has_row-written c.self.inside.writes.items c.self.inside.written c.self.inside.parts _ c.args.key.now c.in-Some.has.now c.self.invariant c.requires
     (by_key_cmp (λ R. Some c.in-Some.has.now ≡ map.get R c.self.inside.written c.args.key.now) c.in-Some.ensures.value))
 
 pub returns-in-None : goal.returns-in-None
@@ -22,5 +22,5 @@ returns-in-None g c =
     let old : c.is_some.result ≡ has_row (g.R.RowStore.rows c.args.rows.now) c.args.key.now =
     c.is_some.ensures ∙ same_some c.get-in-None.result ∙ ap is_some c.get-in-None.ensures.value in
     rw (← c.self.view_is)
-    (old ∙ has_row-unwritten c.self.inside.writes.items c.self.inside.written c.self.inside.touched _ c.args.key.now c.self.invariant c.requires
+    (old ∙ has_row-unwritten c.self.inside.writes.items c.self.inside.written c.self.inside.parts _ c.args.key.now c.self.invariant c.requires
     (by_key_cmp (λ R. None ≡ map.get R c.self.inside.written c.args.key.now) c.in-None.ensures.value))

@@ -1,0 +1,116 @@
+#!/usr/bin/env python3
+"""Measures the ALTO program, alone or beside another one of the same wire behaviour, and prints seconds and ratios.
+
+benchmark.py [--rounds N] [PROGRAM [BESIDE]]
+
+PROGRAM is the program that ./alto keeps unless it is given; BESIDE is, for example, the program of an earlier commit. Each
+workload starts the program as `pipe x`, writes its set-up and waits for the replies, and then times the measured part from the
+first byte written to the last byte read. The best of N rounds counts, 5 unless given. A ratio is PROGRAM's time by BESIDE's.
+"""
+import argparse
+import os
+import re
+import subprocess
+import sys
+import threading
+import time
+
+TOP = os.path.dirname(os.path.dirname(os.path.realpath(__file__)))
+LENGTH = re.compile(rb"\r\nContent-Length: (\d+)\r\n")
+
+
+def edits(name, lines):
+    """An import as a request."""
+    body = "".join(f"{line}\n" for line in lines).encode()
+    head = f"POST /edits/{name} HTTP/1.1\r\nContent-Type: text/csv\r\nContent-Length: {len(body)}\r\n\r\n"
+    return head.encode() + body
+
+
+def get(path):
+    """A request that reads."""
+    return f"GET {path} HTTP/1.1\r\n\r\n".encode()
+
+
+def pids(first, count):
+    """The lines that add PIDs to the network `metro`."""
+    return [f"pid-add,metro,pid-{k:05},,," for k in range(first, first + count)]
+
+
+def workloads():
+    """Yields each workload: its name, the requests that set it up, and those that are measured."""
+    network = edits("net", ["net-add,metro,,,,"])
+    yield "one import of 16,000 PIDs", [network], [edits("many", pids(0, 16_000))]
+    yield "30 imports of one PID after 16,000", [network, edits("many", pids(0, 16_000))], [
+        edits(f"one-{k}", pids(16_000 + k, 1)) for k in range(30)
+    ]
+    yield "100 maps of 1,000 PIDs", [network, edits("some", pids(0, 1_000))], [get("/maps/metro")] * 100
+    yield "10,000 steps of one PID", [network, edits("some", pids(0, 1_000)), edits("one", pids(1_000, 1))], [
+        get("/tips/metro/ug/2/3")
+    ] * 10_000
+
+
+def replies(stream, count):
+    """Reads so many replies; gives their bytes in all, and their statuses."""
+    size, statuses, ahead = 0, set(), b""
+    for _ in range(count):
+        while b"\r\n\r\n" not in ahead:
+            piece = os.read(stream.fileno(), 1 << 20)
+            if not piece:
+                raise EOFError("the program ended before its last reply")
+            ahead += piece
+        end = ahead.index(b"\r\n\r\n") + 4
+        whole = end + int(LENGTH.search(ahead[:end]).group(1))
+        statuses.add(ahead[9:12].decode())
+        while len(ahead) < whole:
+            ahead += os.read(stream.fileno(), 1 << 20)
+        size += whole
+        ahead = ahead[whole:]
+    return size, statuses
+
+
+def send(process, requests):
+    """Writes the requests and reads their replies at once; gives the replies' bytes and statuses, and the seconds."""
+    data = b"".join(requests)
+    writer = threading.Thread(target=lambda: (process.stdin.write(data), process.stdin.flush()))
+    begun = time.perf_counter()
+    writer.start()
+    size, statuses = replies(process.stdout, len(requests))
+    spent = time.perf_counter() - begun
+    writer.join()
+    return size, statuses, spent
+
+
+def run(program, setup, measured):
+    """One run of a workload: the bytes of the measured replies and the seconds."""
+    words = [program, "pipe", "x"]
+    with subprocess.Popen(words, stdin=subprocess.PIPE, stdout=subprocess.PIPE, bufsize=0) as process:
+        try:
+            _, before, _ = send(process, setup)
+            size, statuses, spent = send(process, measured)
+            if before | statuses != {"200"}:
+                raise ValueError(f"answered with {sorted(before | statuses)}")
+        finally:
+            process.stdin.close()
+        process.stdout.read()
+    return size, spent
+
+
+def main():
+    reader = argparse.ArgumentParser(description=__doc__, formatter_class=argparse.RawDescriptionHelpFormatter)
+    reader.add_argument("--rounds", type=int, default=5)
+    reader.add_argument("programs", nargs="*", metavar="PROGRAM")
+    asked = reader.parse_args()
+    programs = asked.programs or [f"{TOP}/alto"]
+    print(f"{'workload':<36}{'bytes':>12}" + "".join(f"{'seconds':>12}" for _ in programs) + ("  ratio" if programs[1:] else ""))
+    for name, setup, measured in workloads():
+        best = []
+        for program in programs:
+            runs = [run(program, setup, measured) for _ in range(asked.rounds)]
+            best.append((runs[0][0], min(seconds for _, seconds in runs)))
+        line = f"{name:<36}{best[0][0]:>12}" + "".join(f"{seconds:>12.4f}" for _, seconds in best)
+        print(line + (f"{best[0][1] / best[1][1]:>7.2f}" if best[1:] else ""), flush=True)
+    return 0
+
+
+if __name__ == "__main__":
+    sys.exit(main())
