@@ -1,4 +1,6 @@
 pub mod Order
+pub mod Packed
+pub mod PrefixOrder
 pub mod Rows
 pub mod Changes
 pub mod Versions

@@ -11,6 +11,7 @@ ghost use Rattle.alto_rows.specs.declared.entity.Entity.{Entity as TheEntity};
 ghost use Rattle.alto_rows.specs.declared.entity.Entity.TheVariants as entity;
 
 use crate::entity::Entity;
+use crate::packed::PackedPrefix;
 use crate::pieces::{behind, read_name};
 use alto_addr::{Addr, Prefix, print_addr, print_prefix, read_addr, read_prefix};
 use alto_names::{NetName, PidName};
@@ -61,7 +62,7 @@ pub fn print_entity(alloc: Global, net: &NetName, entity: &Entity) -> Result<Nam
     ensures { IfOk result (λ text. text ≡ entity_text net.now entity.now) }
 {
     match entity {
-        Entity::Block(block) => print_block(alloc, block),
+        Entity::Block(block) => print_block(alloc, &block.prefix()),
         Entity::Pid(pid) => Ok(Name::new(format!(in alloc; "{net}.pid:{pid}")?)),
     }
 }
@@ -93,7 +94,7 @@ pub fn read_entity(alloc: Global, net: &NetName, text: &[u8]) -> Result<Option<E
 {
     let name = net.as_bytes();
     match read_typed_block(text) {
-        Some(block) => Ok(Some(Entity::Block(block))),
+        Some(block) => Ok(Some(Entity::Block(PackedPrefix::new(&block)))),
         None => read_pid(alloc, name, text),
     }
 }

@@ -1,6 +1,6 @@
 use crate::entity::Entity;
+use crate::packed::PackedPrefix;
 use crate::resource::Resource;
-use alto_addr::Prefix;
 use alto_names::{AneName, Metric, NetName, PidName, PropName};
 
 /// What a row is of. Keys sort by the order of these variants, then by their fields.
@@ -15,7 +15,7 @@ pub enum Key {
     /// A PID of a network is declared.
     Pid(NetName, PidName),
     /// A prefix belongs to a PID of a network.
-    Prefix(NetName, PidName, Prefix),
+    Prefix(NetName, PidName, PackedPrefix),
     /// A cost metric of a network is declared.
     Metric(NetName, Metric),
     /// The cost, in a metric of a network, from a source to a destination.

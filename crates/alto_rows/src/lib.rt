@@ -17,6 +17,7 @@ mod entities;
 mod entity;
 mod ids;
 mod key;
+mod packed;
 mod pieces;
 mod plain;
 mod prefixes;
@@ -39,6 +40,7 @@ pub use entities::{
 pub use entity::Entity;
 pub use ids::{find_resource, ids_are_unambiguous, print_resource, read_resource};
 pub use key::Key;
+pub use packed::PackedPrefix;
 pub use plain::PlainRows;
 pub use prefixes::prefixes_of;
 pub use resource::{Resource, touches};
@@ -48,3 +50,10 @@ pub use value::{AneNames, Value};
 pub use walk::{Walk, walk_from};
 pub use within::{Within, rows_in};
 pub use write::{Batch, Write};
+
+/// A prefix in a key, with its length and family.
+const _: () = prove!(size_of::<PackedPrefix>() == 24);
+/// A key: its kind, and at most four names or what takes as much.
+const _: () = prove!(size_of::<Key>() == 56);
+/// A row: so a cost takes 88 bytes where its names are shared.
+const _: () = prove!(size_of::<(Key, Value)>() == 88);

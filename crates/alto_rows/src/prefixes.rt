@@ -34,7 +34,7 @@ fn prefix_declared(row: &(Key, Value)) -> Result<Option<(Prefix, PidName)>, Allo
     ensures { IfOk result (λ found. found ≡ spec.prefix_declared row.now) }
 {
     match &row.0 {
-        Key::Prefix(_, pid, prefix) => Ok(Some((*prefix, pid.clone()?))),
+        Key::Prefix(_, pid, prefix) => Ok(Some((prefix.prefix(), pid.clone()?))),
         _ => Ok(None),
     }
 }

@@ -1,8 +1,8 @@
 use crate::{
-    Batch, Entity, Key, PlainRows, Resource, RowStore, Span, Value, Write, rows_in, touches,
-    walk_from,
+    Batch, Entity, Key, PackedPrefix, PlainRows, Resource, RowStore, Span, Value, Write,
+    prefixes_of, rows_in, touches, walk_from,
 };
-use alto_addr::read_prefix;
+use alto_addr::{print_prefix, read_prefix};
 use alto_names::{ImportId, Metric, NetName, PidName, PropName};
 use std::test::Fail;
 
@@ -49,7 +49,7 @@ fn prefix_key(rt: &HostRuntime, of: &str, owner: &str, prefix: &str) -> Result<K
     Ok(Key::Prefix(
         net(rt, of)?,
         pid(rt, owner)?,
-        read_prefix(prefix.as_bytes())?,
+        PackedPrefix::new(&read_prefix(prefix.as_bytes())?),
     ))
 }
 
@@ -130,73 +130,24 @@ fn writes_make_the_rows(rt: HostRuntime) -> Result<(), Fail> {
     Ok(())
 }
 
-/// Whether a key has a row, the next row's value, and how many rows there are from the key on and after it.
-fn found(rt: &HostRuntime, rows: &PlainRows, key: &Key) -> Result<String, Fail> {
-    let next = rows.next_from(key).map(|row| row.1);
-    let from = rows.run_from(key).len();
-    let after = rows.run_after(key).len();
-    let has = rows.get(key).is_some();
-    Ok(format!(in rt.alloc(); "{has} {next:?} {from} {after}")?)
-}
-
-const FOUND: &str = "\
-window: true Some(Num(8)) 5 4
-net east: true Some(Unit) 4 3
-net north: false Some(Unit) 3 3
-seq east: true Some(Num(9)) 1 0
-seq west: false None 0 0";
+/// Prefixes of two PIDs of `metro`, and one of another network.
+const PREFIXES: &str = "\
+. prefix metro west 192.0.2.0/24
+. prefix metro east 2001:db8::/32
+. prefix metro east 198.51.100.0/24
+. prefix metrop east 203.0.113.0/24";
 
 #[test]
-fn rows_are_found_by_their_keys(rt: HostRuntime) -> Result<(), Fail> {
-    let rows = rows_of(&rt, ROWS)?;
-    for line in FOUND.lines() {
-        let (key, expected) = line.split_once(": ").unwrap_or((line, ""));
-        let got = found(&rt, &rows, &key_of(&rt, key)?)?;
-        assert_eq!(rt; got.as_str(), expected, "at {key}");
-    }
-    Ok(())
-}
-
-/// Two networks, two metrics and two PIDs whose names begin alike, and a value by which each row is known.
-const ALIKE: &str = "\
-. net metro
-. net metrop
-8 pid metro a
-8 pid metro ab
-. pid metrop a
-. cost metro hop a a
-. cost metro hop a ab
-9 cost metro hop ab a
-. cost metro hop ab ab
-. cost metro hops ab a
-. cost metrop hop ab a";
-
-/// The rows of a span, as they are printed for debugging.
-fn rows_of_span(rt: &HostRuntime, rows: &PlainRows, span: Span) -> Result<String, Fail> {
+fn prefixes_come_with_their_pids(rt: HostRuntime) -> Result<(), Fail> {
+    let rows = rows_of(&rt, PREFIXES)?;
     let mut text = String::new(rt.alloc());
-    for (key, value) in rows_in(rows, span) {
-        let row = format!(in rt.alloc(); "{key:?}={value:?} ")?;
-        text.push_str(row.as_str())?;
+    for (prefix, pid) in &prefixes_of(rt.alloc(), &rows, &net(&rt, "metro")?)? {
+        text.push_str(print_prefix(rt.alloc(), prefix)?.as_str())?;
+        text.push_str(format!(in rt.alloc(); " {pid} ")?.as_str())?;
     }
-    Ok(text)
-}
-
-fn costs_from(rt: &HostRuntime, of: &str, name: &str, source: &str) -> Result<Span, Fail> {
-    Ok(Span::CostsFrom(net(rt, of)?, metric(rt, name)?, pid(rt, source)?))
-}
-
-#[test]
-fn a_span_has_just_its_own_rows(rt: HostRuntime) -> Result<(), Fail> {
-    let rows = rows_of(&rt, ALIKE)?;
-    let pids = rows_of_span(&rt, &rows, Span::Pids(net(&rt, "metro")?))?;
-    let costs = rows_of_span(&rt, &rows, costs_from(&rt, "metro", "hop", "ab")?)?;
     assert_eq!(rt;
-        pids.as_str(),
-        "Pid(metro, a)=Num(8) Pid(metro, ab)=Num(8) "
-    );
-    assert_eq!(rt;
-        costs.as_str(),
-        "Cost(metro, hop, ab, a)=Num(9) Cost(metro, hop, ab, ab)=Unit "
+        text.as_str(),
+        "198.51.100.0/24 east 2001:db8::/32 east 192.0.2.0/24 west "
     );
     Ok(())
 }

@@ -3,7 +3,9 @@ use Rattle.alto_rows.proofs.EntityLemmas.{entity_block, entity_named}
 use Rattle.alto_rows.proofs.entities.read_entity.Goals as goal
 
 pub returns-in-Some : goal.returns-in-Some
-returns-in-Some c = entity_block c.args.net.now c.args.text.now c.in-Some.block c.as_bytes-name.ensures.read_again c.in-Some.ensures
+returns-in-Some c =
+    rw c.new.ensures
+    (entity_block c.args.net.now c.args.text.now c.in-Some.block c.as_bytes-name.ensures.read_again c.in-Some.ensures)
 
 pub returns-in-None : goal.returns-in-None
 returns-in-None c =
