@@ -5,32 +5,7 @@ use crate::{
 use std::alloc::{AllocError, Global};
 use std::test::Fail;
 
-#[test]
-fn an_address_is_printed_in_its_one_form(rt: HostRuntime) -> Result<(), Fail> {
-    for (text, printed) in [
-        ("2001:DB8:0:0:1:0:0:1", "2001:db8::1:0:0:1"),
-        ("1:0:3:4:5:6:7:8", "1:0:3:4:5:6:7:8"),
-        ("::ffff:192.0.2.1", "::ffff:c000:201"),
-        ("0:0:0:0:0:0:0:0", "::"),
-        ("2001:db8::1:0:0:1", "2001:db8::1:0:0:1"),
-        ("2001:0db8::0001", "2001:db8::1"),
-        ("2001:db8:0:0:0:0:2:1", "2001:db8::2:1"),
-        ("2001:db8:0:1:1:1:1:1", "2001:db8:0:1:1:1:1:1"),
-        ("2001:0:0:1:0:0:0:1", "2001:0:0:1::1"),
-        ("1:2:3:4:5:6:7::", "1:2:3:4:5:6:7:0"),
-        ("1::3:4:5:6:1.2.3.4", "1:0:3:4:5:6:102:304"),
-        ("192.0.2.1", "192.0.2.1"),
-    ] {
-        let Ok(addr) = read_addr(text.as_bytes()) else {
-            panic!(rt; "{text}")
-        };
-        let again = print_addr(rt.alloc(), &addr)?;
-        assert_eq!(rt; again.as_str(), printed, "{text}");
-    }
-    Ok(())
-}
-
-/// Spellings of RFC 5952, sections 1, 2 and 4, and what is printed of each.
+/// Spellings of RFC 5952, sections 1, 2 and 4, and others, and what is printed of each.
 const SPELLINGS: &str = "\
 2001:db8:0:0:1:0:0:1 2001:db8::1:0:0:1
 2001:0db8:0:0:1:0:0:1 2001:db8::1:0:0:1
@@ -59,7 +34,13 @@ const SPELLINGS: &str = "\
 2001:db8:aaaa:bbbb:cccc:dddd:eeee:AaAa 2001:db8:aaaa:bbbb:cccc:dddd:eeee:aaaa
 2001:db8:0:0:0:0:2:1 2001:db8::2:1
 2001:db8:0:1:1:1:1:1 2001:db8:0:1:1:1:1:1
-2001:0:0:1:0:0:0:1 2001:0:0:1::1";
+2001:0:0:1:0:0:0:1 2001:0:0:1::1
+1:0:3:4:5:6:7:8 1:0:3:4:5:6:7:8
+::ffff:192.0.2.1 ::ffff:c000:201
+0:0:0:0:0:0:0:0 ::
+1:2:3:4:5:6:7:: 1:2:3:4:5:6:7:0
+1::3:4:5:6:1.2.3.4 1:0:3:4:5:6:102:304
+192.0.2.1 192.0.2.1";
 
 #[test]
 fn spellings_are_printed_alike(rt: HostRuntime) -> Result<(), Fail> {
@@ -72,34 +53,6 @@ fn spellings_are_printed_alike(rt: HostRuntime) -> Result<(), Fail> {
         assert_eq!(rt; again.as_str(), printed, "{text}");
     }
     Ok(())
-}
-
-#[test]
-fn a_bad_address_tells_how_far_it_goes(rt: HostRuntime) {
-    for (text, place) in [
-        ("", 0usize),
-        ("192.0.02.1", 7),
-        ("256.1.1.1", 3),
-        ("1.256.1.1", 4),
-        ("1.2.3", 5),
-        ("1.2.3.4.", 7),
-        ("1:2:3:4:5:6:7", 13),
-        ("1:2:3:4:5:6:7:8:9", 15),
-        ("1::2::3", 5),
-        (":1", 1),
-        (":::", 2),
-        ("12345::", 4),
-        ("::1.2.3.256", 10),
-        ("1:2:3:4:5:6:7:1.2.3.4", 15),
-        ("1:2:3:4:5:6:7::8", 15),
-        ("g::", 0),
-    ] {
-        assert_eq!(rt;
-            read_addr(text.as_bytes()),
-            Err(AddrFault::BadText(place)),
-            "{text}"
-        );
-    }
 }
 
 /// What a text is read as: its family and number, or how far it goes along with an address.
@@ -182,16 +135,5 @@ fn a_prefix_holds_what_begins_as_it_does(rt: HostRuntime) -> Result<(), Fail> {
         let text = print_prefix(rt.alloc(), &inner)?;
         assert_eq!(rt; read_prefix(text.as_bytes()), Ok(inner));
     }
-    Ok(())
-}
-
-/// Takes what may cross and be shared between threads.
-fn crosses_threads<T: Send + Sync>(_value: &T) {}
-
-#[test]
-fn addresses_cross_threads(_rt: HostRuntime) -> Result<(), Fail> {
-    crosses_threads(&Addr::V4(0));
-    crosses_threads(&prefix("::/0")?);
-    crosses_threads(&AddrFault::BadLength);
     Ok(())
 }

@@ -1,4 +1,4 @@
-use crate::{Constraint, ConstraintFault, Relation, all_hold, holds, one_holds, read_constraint};
+use crate::{Constraint, ConstraintFault, Relation, holds, read_constraint};
 use std::test::Fail;
 
 /// A constraint of the first tested cost.
@@ -106,36 +106,4 @@ fn costs_are_tested_exactly(rt: HostRuntime) {
         let constraint = first(relation, millionths);
         assert_eq!(rt; holds(&constraint, cost), held, "{constraint:?} of {cost}");
     }
-}
-
-#[test]
-fn a_list_holds_whole_and_one_list_is_enough(rt: HostRuntime) -> Result<(), Fail> {
-    let low = first(Relation::Le, 10_000_000);
-    let high = at(1, Relation::Gt, 1_500_000);
-    let past = at(2, Relation::Ge, 0);
-    let costs = [Some(7), None];
-    assert!(rt; all_hold(&[], &costs), "no constraint holds");
-    assert!(rt; all_hold(&[low], &costs), "7 is at most 10");
-    assert!(rt; !all_hold(&[low, high], &costs), "a missing cost fails");
-    assert!(rt; !all_hold(&[past], &costs), "an index past the costs fails");
-    let mut alternatives = Vec::new(rt.alloc());
-    assert!(rt; !one_holds(&alternatives, &costs), "none of no lists holds");
-    alternatives.push(vec![in rt.alloc(); low, high]?)?;
-    assert!(rt;
-        !one_holds(&alternatives, &costs),
-        "half a list isn't enough"
-    );
-    alternatives.push(vec![in rt.alloc(); low]?)?;
-    assert!(rt;
-        one_holds(&alternatives, &costs),
-        "one whole list is enough"
-    );
-    Ok(())
-}
-
-#[test]
-fn a_fault_is_printed(rt: HostRuntime) -> Result<(), Fail> {
-    let printed = format!(in rt.alloc(); "{}", ConstraintFault::BadAt(3))?;
-    assert_eq!(rt; printed.as_str(), "no constraint, from place 3 on");
-    Ok(())
 }

@@ -71,14 +71,3 @@ fn operations_are_written_as_they_are_read(rt: HostRuntime) -> Result<(), Fail> 
     assert!(rt; found.as_str() == given, "it became {found}");
     Ok(())
 }
-
-#[test]
-fn faults_are_printed(rt: HostRuntime) -> Result<(), Fail> {
-    let parent = format!(in rt.alloc(); "{}", PatchFault::NoParent(2))?;
-    assert_eq!(rt; parent.as_str(), "operation 2 adds where no object is");
-    let target = format!(in rt.alloc(); "{}", PatchFault::NoTarget(0))?;
-    assert_eq!(rt; target.as_str(), "operation 0 has no target");
-    let bad = format!(in rt.alloc(); "{}", OpsFault::BadOp(1))?;
-    assert_eq!(rt; bad.as_str(), "no JSON Patch: item 1 is no operation");
-    Ok(())
-}

@@ -55,12 +55,3 @@ fn pointers_read_as_their_names(rt: HostRuntime) -> Result<(), Fail> {
     }
     Ok(())
 }
-
-#[test]
-fn pointer_faults_are_printed(rt: HostRuntime) -> Result<(), Fail> {
-    let bad = format!(in rt.alloc(); "{}", PointerFault::BadAt(7))?;
-    assert_eq!(rt; bad.as_str(), "no JSON pointer, from place 7 on");
-    let memory = format!(in rt.alloc(); "{}", PointerFault::Memory)?;
-    assert_eq!(rt; memory.as_str(), "out of memory");
-    Ok(())
-}

@@ -66,17 +66,6 @@ fn is_refused(alloc: Global, bytes: &[u8]) -> Result<bool, AllocError> {
     Ok(outcome(alloc, bytes)?.as_str() == "Syntax")
 }
 
-#[test]
-fn bytes_that_no_line_shows_are_refused(rt: HostRuntime) -> Result<(), Fail> {
-    let alloc = rt.alloc();
-    assert!(rt; is_refused(alloc, b"")?, "no bytes");
-    assert!(rt; is_refused(alloc, b"\xef\xbb\xbf1")?, "a byte order mark");
-    assert!(rt; is_refused(alloc, b"1\0")?, "a zero byte after");
-    assert!(rt; is_refused(alloc, b"\"\xc0\x80\"")?, "a long zero");
-    assert!(rt; is_refused(alloc, b"\"\xe2\x82\"")?, "a cut character");
-    Ok(())
-}
-
 /// So many arrays, one inside the other.
 fn nested(alloc: Global, depth: usize) -> Result<String, AllocError> {
     let mut nested = String::new(alloc);
@@ -97,30 +86,5 @@ fn texts_nest_to_127(rt: HostRuntime) -> Result<(), Fail> {
     assert!(rt; found.as_str() == deepest.as_str(), "127 deep gave {found}");
     let deeper = nested(alloc, 128)?;
     assert!(rt; is_refused(alloc, deeper.as_bytes())?, "128 deep");
-    Ok(())
-}
-
-#[test]
-fn a_tree_is_looked_into(rt: HostRuntime) -> Result<(), Fail> {
-    let alloc = rt.alloc();
-    let given = br#"{"pids":["east","west"],"name":"metro"}"#;
-    let tree = read(alloc, given.as_slice()).map_err(|_| AllocError)?;
-    let pids = tree.member("pids").and_then(Tree::as_list);
-    assert!(rt; pids.is_some_and(|pids| pids.len() == 2), "a list");
-    let name = tree.member("name").and_then(Tree::as_text);
-    assert!(rt; name == Some("metro"), "a text");
-    assert!(rt; tree.member("pid").is_none(), "no such member");
-    Ok(())
-}
-
-#[test]
-fn faults_are_printed(rt: HostRuntime) -> Result<(), Fail> {
-    let syntax = format!(in rt.alloc(); "{}", TreeFault::Syntax)?;
-    assert_eq!(rt; syntax.as_str(), "no JSON text");
-    let number = format!(in rt.alloc(); "{}", TreeFault::NotWhole)?;
-    assert_eq!(rt;
-        number.as_str(),
-        "a number that isn't a whole number from 0 to 2^64 - 1"
-    );
     Ok(())
 }
