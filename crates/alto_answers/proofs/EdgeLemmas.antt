@@ -1,6 +1,5 @@
 -- The edges of a network map, by the updates graph of a version.
 use Rattle.std.proofs.Common.{◌≡◌, ℕ, ◌≤◌, ◌==◌, true, false, Bool, List, Option, Some, None, Result, Ok, Err, codes, if◌then◌else◌, refl, ap, sym, subst, ◌∙◌, arith}
-use Rattle.std.proofs.lemmas.Bool.{false≢true}
 use Rattle.std.proofs.lemmas.Bool.Decides.{nat_tests}
 use Rattle.alto_names.specs.declared.label.NameFault.{NameFault}
 use Rattle.alto_names.specs.Name.{named, is_net_byte}
@@ -33,10 +32,10 @@ use Rattle.alto_answers.specs.Graphs.{IsGraphOf}
 use Rattle.alto_replies.specs.Replies.{document_reply, not_found}
 use Rattle.alto_answers.specs.Types.{media_type_of, merge_patch_type}
 
--- what a version has of a network map is the book's graph, where the network is declared
-pub found_map : (version : Version) (book : Book) (net : List ℕ) → StandsFor version book
-    → graph_in version.graphs (resource.Net net) ≡ (if is_declared (rows_of book) (resource.Net net) then Some (updates_graph book (resource.Net net)) else None)
-found_map version book net stands = ap (λ graphs. graph_in graphs (resource.Net net)) stands.graphs ∙ graph_found book net
+-- what a version has of a resource is the book's graph, where the resource is declared
+pub graph_in_version : (version : Version) (book : Book) (of : Resource) → StandsFor version book
+    → graph_in version.graphs of ≡ (if is_declared (rows_of book) of then Some (updates_graph book of) else None)
+graph_in_version version book of stands = ap (λ graphs. graph_in graphs of) stands.graphs ∙ graph_found book of
 
 chosen : (b : Bool) (graph there : GraphData) → Some graph ≡ (if b then Some there else None) → (b ≡ true) × (graph ≡ there)
 chosen true graph there h = (refl, cc)
@@ -49,18 +48,16 @@ left_out false there h = refl
 -- a graph that a version has is that of a declared resource
 pub graph_some : (version : Version) (book : Book) (of : Resource) (graph : GraphData) → IsLegal book → StandsFor version book
     → has_document of ≡ true → Some graph ≡ graph_in version.graphs of → (is_declared (rows_of book) of ≡ true) × IsGraphOf graph book of
-graph_some version book (resource.Net net) graph legal stands documents found =
-    let is = chosen (is_declared (rows_of book) (resource.Net net)) graph (updates_graph book (resource.Net net)) (found ∙ found_map version book net stands) in
-    let P : GraphData → Type 0 = λ g. TellsNumbers g book (resource.Net net) in
-    (is.0, record { tells = subst P (sym is.1) (graph_tells book (resource.Net net) legal is.0); documents = documents })
-graph_some version book _ graph legal stands documents found = absurd (false≢true documents)
+graph_some version book of graph legal stands documents found =
+    let is = chosen (is_declared (rows_of book) of) graph (updates_graph book of) (found ∙ graph_in_version version book of stands) in
+    let P : GraphData → Type 0 = λ g. TellsNumbers g book of in
+    (is.0, record { tells = subst P (sym is.1) (graph_tells book of legal is.0); documents = documents })
 
 -- and where it has none, the resource isn't declared
 pub graph_none : (version : Version) (book : Book) (of : Resource) → StandsFor version book
-    → has_document of ≡ true → None ≡ graph_in version.graphs of → is_declared (rows_of book) of ≡ false
-graph_none version book (resource.Net net) stands documents found =
-    left_out (is_declared (rows_of book) (resource.Net net)) (updates_graph book (resource.Net net)) (found ∙ found_map version book net stands)
-graph_none version book _ stands documents found = absurd (false≢true documents)
+    → None ≡ graph_in version.graphs of → is_declared (rows_of book) of ≡ false
+graph_none version book of stands found =
+    left_out (is_declared (rows_of book) of) (updates_graph book of) (found ∙ graph_in_version version book of stands)
 
 -- the status that a graph tells is that of the book
 pub by_status : (graph : GraphData) (book : Book) (of : Resource) (i j : ℕ) (status : EdgeStatus) (answer : Answer) → IsGraphOf graph book of

@@ -2,4 +2,5 @@ pub mod AuthorityLemmas
 pub mod EdgeLemmas
 pub mod EdgeNumberLemmas
 pub mod HeldLemmas
+pub mod UniqueLemmas
 pub mod ViewLemmas

@@ -1,13 +1,13 @@
 -- What a request comes to at a version: first its route, then its method, its content type, the resource, the body.
-use Rattle.std.specs.Prelude.{ℕ, List, Option, Some, None, Result, Ok, Err, if◌then◌else◌, codes, All}
+use Rattle.std.specs.Prelude.{◌≡◌, ℕ, List, Option, Some, None, Result, Ok, Err, if◌then◌else◌, codes, All}
 use Rattle.sha2.specs.Sha256.{sha256}
 use Rattle.alto_names.specs.declared.label.NameFault.{NameFault}
 use Rattle.alto_names.specs.Name.{named, is_net_byte, is_import_byte}
 use Rattle.alto_rows.specs.declared.key.Key.TheVariants as key
 use Rattle.alto_rows.specs.Rows.{Rows, has_row}
 use Rattle.alto_book.specs.Book.{Book, rows_of}
-use Rattle.alto_rules.specs.declared.edit.Edit.{Edit}
-use Rattle.alto_rules.specs.Rules.{IsEdit}
+use Rattle.alto_edits.specs.declared.edit.Edit.{Edit}
+use Rattle.alto_edits.specs.Edits.{IsEdit}
 use Rattle.net_docs.specs.NetworkMap.{network_map}
 use Rattle.edit_forms.specs.declared.fault.FormFault.{FormFault}
 use Rattle.alto_http.specs.Request.{RequestData}
@@ -25,13 +25,14 @@ use Rattle.alto_answers.specs.Target.{path_of, segment}
 use Rattle.alto_answers.specs.Tips.{tips_answer}
 use Rattle.alto_answers.specs.Types.{network_map_type}
 use Rattle.alto_answers.specs.Edges.{edges_answer}
-use Rattle.alto_answers.specs.Forms.{edits_in, form_of}
+use Rattle.alto_answers.specs.Forms.{Reads, form_of}
 use Rattle.alto_answers.specs.declared.form.Form.{Form}
 
 -- the map of a network, if it is declared
 abbrev pub net_reply : Rows → List ℕ → ReplyData
 net_reply rows net =
-    if has_row rows (key.Net net) then document_reply network_map_type (network_map rows net) else not_found (codes "resource")
+    if has_row rows (key.Net net) then document_reply network_map_type (network_map rows net)
+    else not_found (codes "resource")
 
 -- the document of a resource, if the text names one
 abbrev pub map_reply : Rows → Result (List ℕ) NameFault → ReplyData
@@ -49,35 +50,40 @@ abbrev pub import_of : List ℕ → List ℕ → Result (List Edit) FormFault �
 import_of id digest (Ok edits) = answer.Edit (record { id = id; digest = digest; edits = edits })
 import_of id digest (Err fault) = answer.Reply (form_reply fault)
 
--- an import under an id, if it is one, whose body is in a form
-abbrev pub import_under : Result (List ℕ) NameFault → Form → List ℕ → Answer
-import_under (Ok id) form body = import_of id (sha256 body) (edits_in form body)
-import_under (Err fault) form body = answer.Reply (bad_form 0 0)
+-- what an import under an id, if it is one, comes to, whose body is in a form: that of what the body reads as
+abbrev pub ImportAnswers : Result (List ℕ) NameFault → Form → List ℕ → Answer → Type 0
+ImportAnswers (Ok id) form body given =
+    (read : Result (List Edit) FormFault) × Reads form body read × (given ≡ import_of id (sha256 body) read)
+ImportAnswers (Err fault) form body given = given ≡ answer.Reply (bad_form 0 0)
 
--- an import whose body is in a form, if its content type names one
-abbrev pub posted_import : Option Form → Result (List ℕ) NameFault → List ℕ → Answer
-posted_import None id body = answer.Reply (status_alone 415)
-posted_import (Some form) id body = import_under id form body
+-- what an import comes to, whose body is in a form, if its content type names one
+abbrev pub PostedImport : Option Form → Result (List ℕ) NameFault → List ℕ → Answer → Type 0
+PostedImport None id body given = given ≡ answer.Reply (status_alone 415)
+PostedImport (Some form) id body given = ImportAnswers id form body given
 
 -- `/edits/{id}`: an import
-abbrev pub edits_answer : Verb → Option (List ℕ) → List ℕ → List ℕ → Answer
-edits_answer verb.Post content_type id body = posted_import (form_of content_type) (named is_import_byte 64 id) body
-edits_answer verb.Get content_type id body = answer.Reply (wrong_method verb.Post)
-edits_answer verb.Other content_type id body = answer.Reply (wrong_method verb.Post)
+abbrev pub EditsAnswer : Verb → Option (List ℕ) → List ℕ → List ℕ → Answer → Type 0
+EditsAnswer verb.Post content_type id body given =
+    PostedImport (form_of content_type) (named is_import_byte 64 id) body given
+EditsAnswer verb.Get content_type id body given = given ≡ answer.Reply (wrong_method verb.Post)
+EditsAnswer verb.Other content_type id body given = given ≡ answer.Reply (wrong_method verb.Post)
 
 -- what a request comes to at the place where its path leads
-abbrev pub place_answer : Option Place → RequestData → Book → Answer
-place_answer None request book = answer.Reply (not_found (codes "route"))
-place_answer (Some place.Maps) request book = maps_answer request.verb (rows_of book) (segment (path_of request.target) 2)
-place_answer (Some place.Tips) request book = tips_answer request.verb request.content_type book request.host request.body
-place_answer (Some place.Edge) request book =
-    edges_answer request.verb book (segment (path_of request.target) 2) (segment (path_of request.target) 4) (segment (path_of request.target) 5)
-place_answer (Some place.Edits) request book =
-    edits_answer request.verb request.content_type (segment (path_of request.target) 2) request.body
+abbrev pub PlaceAnswers : Option Place → RequestData → Book → Answer → Type 0
+PlaceAnswers None request book given = given ≡ answer.Reply (not_found (codes "route"))
+PlaceAnswers (Some place.Maps) request book given =
+    given ≡ maps_answer request.verb (rows_of book) (segment (path_of request.target) 2)
+PlaceAnswers (Some place.Tips) request book given =
+    given ≡ tips_answer request.verb request.content_type book request.host request.body
+PlaceAnswers (Some place.Edge) request book given =
+    let path = path_of request.target in
+    given ≡ edges_answer request.verb book (segment path 2) (segment path 4) (segment path 5)
+PlaceAnswers (Some place.Edits) request book given =
+    EditsAnswer request.verb request.content_type (segment (path_of request.target) 2) request.body given
 
--- what a request of a side comes to at a book
-unfoldable pub answer_to : RequestData → Book → Side → Answer
-answer_to request book side = place_answer (place_of side (path_of request.target)) request book
+-- the request of this side is answered so at the book
+unfoldable pub AnswersTo : RequestData → Book → Side → Answer → Type 0
+AnswersTo request book side given = PlaceAnswers (place_of side (path_of request.target)) request book given
 
 -- an answer that is a reply has bytes
 abbrev pub HasBytes : Answer → Type 0

@@ -1,4 +1,4 @@
--- The authority of the URIs in a reply (RFC 3986, section 3.2): that of the Host field (RFC 9110, section 7.2), where it is one.
+-- The authority of the URIs in a reply (RFC 3986, section 3.2): that of the Host field, if it is one (RFC 9110, 7.2).
 use Rattle.std.specs.Prelude.{ℕ, Bool, false, true, ◌&&◌, ◌||◌, ◌==◌, nat_le, List, [], ◌∷◌, length, drop, Option, Some, None, if◌then◌else◌, codes}
 use Rattle.std.specs.Char.{is_ascii_alphanumeric, is_ascii_digit, is_ascii_hexdigit}
 use Rattle.std.specs.List.{list_all, list_any, before_first, position_or_len}
@@ -55,7 +55,8 @@ is_named text = is_name (before_first (λ b. b == colon) text) && follows_host (
 
 -- what follows the opening bracket: an address, the closing bracket, and perhaps a port
 unfoldable pub is_bracketed : List ℕ → Bool
-is_bracketed text = is_address (before_first (λ b. b == closing_bracket) text) && follows_address (from_first closing_bracket text)
+is_bracketed text =
+    is_address (before_first (λ b. b == closing_bracket) text) && follows_address (from_first closing_bracket text)
 
 -- a host, and perhaps a port: a host is a name, or an address in brackets
 unfoldable pub is_authority : List ℕ → Bool

@@ -1,5 +1,5 @@
 -- Edges of updates graphs, asked for by their numbers (RFC 9569, section 7).
-use Rattle.std.specs.Prelude.{ℕ, Bool, false, not, ◌&&◌, ◌==◌, nat_le, List, [], ◌∷◌, length, Option, Some, None, Result, Ok, Err, if◌then◌else◌, codes}
+use Rattle.std.specs.Prelude.{ℕ, Bool, false, not, ◌&&◌, ◌==◌, nat_le, List, ◌∷◌, length, Option, Some, None, Result, Ok, Err, if◌then◌else◌, codes}
 use Rattle.std.specs.Str.Parse.{digits_value}
 use Rattle.alto_names.specs.declared.label.NameFault.{NameFault}
 use Rattle.alto_names.specs.Name.{named, is_net_byte}
@@ -61,7 +61,8 @@ numbered_edge book of None j = answer.Reply (not_found (codes "edge"))
 -- the edge of a resource, if it is declared
 abbrev pub declared_edge : Book → Resource → List ℕ → List ℕ → Answer
 declared_edge book of i j =
-    if is_declared (rows_of book) of then numbered_edge book of (edge_number i) (edge_number j) else answer.Reply (not_found (codes "resource"))
+    if is_declared (rows_of book) of then numbered_edge book of (edge_number i) (edge_number j)
+    else answer.Reply (not_found (codes "resource"))
 
 -- the edge of the network map that a text names
 abbrev pub net_edge : Book → Result (List ℕ) NameFault → List ℕ → List ℕ → Answer

@@ -4,10 +4,10 @@ use Rattle.std.specs.List.{before_first}
 use Rattle.std.specs.Str.{str_to_ascii_lowercase}
 use Rattle.httparse.specs.Grammar.{trim_ows}
 use Rattle.alto_rows.specs.Order.{same_name}
-use Rattle.alto_rules.specs.declared.edit.Edit.{Edit}
+use Rattle.alto_edits.specs.declared.edit.Edit.{Edit}
 use Rattle.edit_forms.specs.declared.fault.FormFault.{FormFault}
-use Rattle.edit_forms.specs.Csv.{csv_edits}
-use Rattle.edit_forms.specs.Json.{json_edits}
+use Rattle.edit_forms.specs.Csv.{CsvReads}
+use Rattle.edit_forms.specs.Json.{JsonReads}
 use Rattle.alto_answers.specs.declared.form.Form.{Form}
 use Rattle.alto_answers.specs.declared.form.Form.TheVariants as form
 
@@ -31,7 +31,7 @@ form_of content_type =
     else if has_type (codes "application/json") content_type then Some form.Json
     else None
 
--- the edits of a body in a form, or the first fault
-abbrev pub edits_in : Form → List ℕ → Result (List Edit) FormFault
-edits_in form.Csv body = csv_edits body
-edits_in form.Json body = json_edits body
+-- what a body in a form reads as: its edits, or the first fault
+abbrev pub Reads : Form → List ℕ → Result (List Edit) FormFault → Type 0
+Reads form.Csv body read = CsvReads body read
+Reads form.Json body read = JsonReads body read

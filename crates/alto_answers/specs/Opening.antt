@@ -4,7 +4,7 @@ use Rattle.std.specs.List.{find, range_with_len}
 use Rattle.serde_json.specs.Data.{Data, string}
 use Rattle.json_tree.specs.Document.{object_of}
 use Rattle.tips_graph.specs.Edges.{recommended_edge}
-use Rattle.tips_graph.specs.Graph.{GraphData, first_of}
+use Rattle.tips_graph.specs.Graph.{GraphData, first_of, last_of}
 use Rattle.alto_asks.specs.declared.fault.AskFault.{AskFault}
 use Rattle.alto_asks.specs.Asks.{◌>>=◌, ask_of, required_text, optional_text, wrong_text}
 use Rattle.alto_answers.specs.Authority.{authority_of}
@@ -43,7 +43,8 @@ edge_data edge = object_of ((codes "seq-i", whole edge.0) ∷ (codes "seq-j", wh
 -- the kept numbers of a graph and the first edge, as they are told
 abbrev pub graph_summary : ℕ → ℕ → ℕ × ℕ → Data
 graph_summary first last edge =
-    object_of ((codes "end-seq", whole last) ∷ (codes "start-edge-rec", edge_data edge) ∷ (codes "start-seq", whole first) ∷ [])
+    object_of
+    ((codes "end-seq", whole last) ∷ (codes "start-edge-rec", edge_data edge) ∷ (codes "start-seq", whole first) ∷ [])
 
 -- the summary of a view, which is that of its graph
 abbrev pub view_summary : Data → Data
@@ -65,7 +66,9 @@ view_reply authority resource first last edge =
 -- the edge that is recommended to a client which holds the version of this tag, or none
 abbrev pub edge_for : List ℕ → GraphData → Option (List ℕ) → ℕ × ℕ
 edge_for epoch graph tag =
-    recommended_edge (first_of graph) graph.last (option_and_then (held_number epoch (first_of graph) graph.last) tag)
+    let first = first_of graph in
+    let last = last_of graph in
+    recommended_edge first last (option_and_then (held_number epoch first last) tag)
 
 -- the graph of a resource, if it is declared
 abbrev pub declared : List ℕ → Option GraphData → Result GraphData AskFault
@@ -76,7 +79,7 @@ declared resource None = Err (wrong_text resource_field resource)
 unfoldable pub opened : List ℕ → Option (List ℕ) → Data → List ℕ → GraphData → Result ReplyData AskFault
 opened epoch host ask resource graph =
     optional_text tag_field ask
-    >>= λ tag. Ok (view_reply (authority_of host) resource (first_of graph) graph.last (edge_for epoch graph tag))
+    >>= λ tag. Ok (view_reply (authority_of host) resource (first_of graph) (last_of graph) (edge_for epoch graph tag))
 
 -- what opening a view comes to: the body is read, then the field of the resource, the resource itself, and its tag
 abbrev pub opening : List ℕ → (List ℕ → Option GraphData) → Option (List ℕ) → List ℕ → Result ReplyData AskFault

@@ -15,7 +15,10 @@ use Rattle.alto_answers.specs.declared.route.Side.TheVariants as side
 -- the routes of applications
 abbrev pub public_routes : List (List ℕ × Place)
 public_routes =
-    (codes "/maps/{resource}", place.Maps) ∷ (codes "/tips", place.Tips) ∷ (codes "/tips/{resource}/ug/{i}/{j}", place.Edge) ∷ []
+    (codes "/maps/{resource}", place.Maps)
+    ∷ (codes "/tips", place.Tips)
+    ∷ (codes "/tips/{resource}/ug/{i}/{j}", place.Edge)
+    ∷ []
 
 -- the routes of the operator
 abbrev pub operator_routes : List (List ℕ × Place)
@@ -43,4 +46,5 @@ router_of of = fold (λ rows route. with_route route.1 (parse_route route.0) row
 
 -- where a path leads, if it is text and has a route
 unfoldable pub place_of : Side → List ℕ → Option Place
-place_of of path = if utf8_valid_len path == length path then option_map (λ route. route.value) (first (router_of of) path) else None
+place_of of path =
+    if utf8_valid_len path == length path then option_map (λ route. route.value) (first (router_of of) path) else None

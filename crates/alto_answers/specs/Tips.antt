@@ -32,7 +32,8 @@ graph_named book text = net_graph book (named is_net_byte 24 text)
 -- `/tips`: the view of a resource
 abbrev pub tips_answer : Verb → Option (List ℕ) → Book → Option (List ℕ) → List ℕ → Answer
 tips_answer verb.Post content_type book host body =
-    if has_type ask_type content_type then answer.Reply (opening_reply (epoch_of (rows_of book)) (graph_named book) host body)
+    if has_type ask_type content_type
+    then answer.Reply (opening_reply (epoch_of (rows_of book)) (graph_named book) host body)
     else answer.Reply (status_alone 415)
 tips_answer verb.Get content_type book host body = answer.Reply (wrong_method verb.Post)
 tips_answer verb.Other content_type book host body = answer.Reply (wrong_method verb.Post)

@@ -1,8 +1,8 @@
-ghost use Rattle.std.specs.Prelude.{◌≡◌, IfOk};
+ghost use Rattle.std.specs.Prelude.{IfOk};
 ghost use Rattle.alto_book.specs.Book.{Book};
 ghost use Rattle.alto_book.specs.Legal.{IsLegal};
 ghost use Rattle.alto_desk.specs.Front.{StandsFor};
-ghost use Rattle.alto_answers.specs.Answers.{HasBytes, BringsEdits, answer_to};
+ghost use Rattle.alto_answers.specs.Answers.{AnswersTo, BringsEdits, HasBytes};
 ghost use Rattle.alto_answers.specs.Graphs.{IsVersion};
 
 use crate::edges::edges;
@@ -19,10 +19,10 @@ use alto_replies::not_found;
 use alto_rows::RowStore;
 use std::alloc::{AllocError, Global};
 
-/// What a request comes to at a version, on the side whose routes these are: the first of no route, another method, another
-/// content type, an unknown resource or no import id, an edge that can't be had, the body, that is at fault; else a document, a
-/// patch, an awaited edge, or an import.
-#[tactic(auto, unfolding(crate::specs::Answers::answer_to))]
+/// What a request comes to at a version, on the side whose routes these are: a refusal for the first of no route, another
+/// method, another content type, an unknown resource or no import id, an edge that can't be had, and an invalid body;
+/// else a document, a patch, the next edge, which is awaited, or an import.
+#[tactic(auto, unfolding(crate::specs::Answers::AnswersTo))]
 pub fn answer<R: RowStore>(
     alloc: Global,
     routes: &Routes,
@@ -31,7 +31,7 @@ pub fn answer<R: RowStore>(
 ) -> Result<Answer, AllocError>
     requires { IsVersion front.now }
     ensures answer { IfOk result (λ answer. (book : Book) → IsLegal book → StandsFor front.now book
-        → answer ≡ answer_to request.now book routes.now) }
+        → AnswersTo request.now book routes.now answer) }
     ensures edits { IfOk result BringsEdits }
     ensures replies { IfOk result HasBytes }
 {

@@ -11,8 +11,8 @@ const LOCAL: &str = "localhost";
 /// The longest Host field that counts.
 const HOST_BYTES: usize = 255;
 
-/// The authority that the Host field of a request names (RFC 3986, section 3.2): a host, and perhaps a port, in 255 bytes
-/// at most. Else it is `localhost`.
+/// The authority that the Host field of a request names (RFC 3986, section 3.2): a host, and perhaps a port, in 255
+/// bytes at most. Else it is `localhost`.
 #[tactic(auto, unfolding(crate::specs::Authority::authority_of))]
 pub(crate) fn authority_of(request: &Request) -> &str
     ensures { result.now ≡ authority_of request.now.host }

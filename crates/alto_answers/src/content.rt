@@ -7,7 +7,8 @@ ghost use Rattle.alto_answers.specs.Forms.{semicolon, media_type, has_type};
 use crate::bytes::{place_of, trim};
 use alto_http::Request;
 
-/// Whether a request has a content type, and it is this media type (RFC 9110, section 8.3): neither parameters nor case count.
+/// Whether a request has a content type, and it is this media type (RFC 9110, section 8.3): neither parameters nor case
+/// count.
 pub(crate) fn has_type(request: &Request, wanted: &[u8]) -> bool
     requires { str_to_ascii_lowercase wanted.now ≡ wanted.now }
     ensures { result ≡ has_type wanted.now request.now.content_type }

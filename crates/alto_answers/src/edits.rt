@@ -1,9 +1,7 @@
-ghost use Rattle.std.specs.Prelude.{◌≡◌, IfOk};
-ghost use Rattle.sha2.specs.Sha256.{sha256};
+ghost use Rattle.std.specs.Prelude.{Ok, IfOk};
 ghost use Rattle.alto_http.specs.declared.request.Verb.TheVariants as verb;
 ghost use Rattle.alto_names.specs.Name.{named, is_import_byte};
-ghost use Rattle.alto_answers.specs.Answers.{BringsEdits, HasBytes, import_of, import_under, edits_answer};
-ghost use Rattle.alto_answers.specs.Forms.{edits_in};
+ghost use Rattle.alto_answers.specs.Answers.{BringsEdits, EditsAnswer, HasBytes, ImportAnswers};
 ghost use Rattle.alto_answers.specs.Target.{segment};
 
 use crate::form::Form;
@@ -19,8 +17,8 @@ use std::alloc::{AllocError, Global};
 
 /// What a request comes to whose path leads to `/edits/{id}`.
 pub(crate) fn edits(alloc: Global, request: &Request, path: &[u8]) -> Result<Answer, AllocError>
-    ensures answer { IfOk result (λ answer. answer
-        ≡ edits_answer request.now.verb request.now.content_type (segment path.now 2) request.now.body) }
+    ensures answer { IfOk result (λ answer.
+        EditsAnswer request.now.verb request.now.content_type (segment path.now 2) request.now.body answer) }
     ensures edits { IfOk result BringsEdits }
     ensures has_bytes { IfOk result HasBytes }
 {
@@ -31,8 +29,8 @@ pub(crate) fn edits(alloc: Global, request: &Request, path: &[u8]) -> Result<Ans
 }
 
 fn posted(alloc: Global, request: &Request, path: &[u8]) -> Result<Answer, AllocError>
-    ensures answer { IfOk result (λ answer. answer
-        ≡ edits_answer verb.Post request.now.content_type (segment path.now 2) request.now.body) }
+    ensures answer { IfOk result (λ answer.
+        EditsAnswer verb.Post request.now.content_type (segment path.now 2) request.now.body answer) }
     ensures edits { IfOk result BringsEdits }
     ensures has_bytes { IfOk result HasBytes }
 {
@@ -44,7 +42,7 @@ fn posted(alloc: Global, request: &Request, path: &[u8]) -> Result<Answer, Alloc
 }
 
 fn import_under(alloc: Global, id: &[u8], form: Form, body: &[u8]) -> Result<Answer, AllocError>
-    ensures answer { IfOk result (λ answer. answer ≡ import_under (named is_import_byte 64 id.now) form body.now) }
+    ensures answer { IfOk result (λ answer. ImportAnswers (named is_import_byte 64 id.now) form body.now answer) }
     ensures edits { IfOk result BringsEdits }
     ensures has_bytes { IfOk result HasBytes }
 {
@@ -56,7 +54,7 @@ fn import_under(alloc: Global, id: &[u8], form: Form, body: &[u8]) -> Result<Ans
 }
 
 fn import_of(alloc: Global, id: ImportId, form: Form, body: &[u8]) -> Result<Answer, AllocError>
-    ensures answer { IfOk result (λ answer. answer ≡ import_of id (sha256 body.now) (edits_in form body.now)) }
+    ensures answer { IfOk result (λ answer. ImportAnswers (Ok id) form body.now answer) }
     ensures edits { IfOk result BringsEdits }
     ensures has_bytes { IfOk result HasBytes }
 {

@@ -1,10 +1,10 @@
 ghost use Rattle.std.specs.Prelude.{◌≡◌, ◌≢◌, Ok, Err, IfOk, IfErr, All};
-ghost use Rattle.alto_rules.specs.Rules.{IsEdit};
-ghost use Rattle.alto_answers.specs.Forms.{edits_in, form_of};
+ghost use Rattle.alto_edits.specs.Edits.{IsEdit};
+ghost use Rattle.alto_answers.specs.Forms.{Reads, form_of};
 
 use crate::content::has_type;
+use alto_edits::Edit;
 use alto_http::Request;
-use alto_rules::Edit;
 use edit_forms::{FormFault, read_csv, read_json};
 use std::alloc::Global;
 
@@ -33,8 +33,8 @@ impl Form {
 
     /// The edits of a body in this form.
     pub(crate) fn read(self, alloc: Global, body: &[u8]) -> Result<Vec<Edit>, FormFault>
-        ensures ok { IfOk result (λ edits. edits_in self body.now ≡ Ok edits.items) }
-        ensures err { IfErr result (λ fault. fault ≢ FormFault.Memory → edits_in self body.now ≡ Err fault) }
+        ensures ok { IfOk result (λ edits. Reads self body.now (Ok edits.items)) }
+        ensures err { IfErr result (λ fault. fault ≢ FormFault.Memory → Reads self body.now (Err fault)) }
         ensures edits { IfOk result (λ edits. All IsEdit edits.items) }
     {
         match self {

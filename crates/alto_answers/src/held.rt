@@ -3,8 +3,8 @@ ghost use Rattle.alto_answers.specs.Opening.{tag, held_number};
 
 use std::alloc::{AllocError, Global};
 
-/// The kept number whose tag this text is, where these are the first and the last that are kept: no number has two tags,
-/// so a leading zero has none. Makes a tag for each kept number.
+/// The kept number whose tag this text is, where these are the first and the last that are kept: no number has two
+/// tags, so a leading zero has none. Makes a tag for each kept number.
 #[tactic(auto, unfolding(crate::specs::Opening::held_number))]
 pub(crate) fn held_number(
     alloc: Global,

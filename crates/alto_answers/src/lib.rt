@@ -1,4 +1,5 @@
-//! What a request comes to at one version of a book: its route, its method, its content type, its resource, its body, its effect.
+//! What a request comes to at one version of a book: its route, its method, its content type, its resource, its body,
+//! its effect.
 //!
 //! ```text
 //! Request ── Routes::place ──▶ Place ── answer ──▶ Answer ──┬── Reply
@@ -15,6 +16,7 @@ mod edges;
 mod edits;
 mod form;
 mod held;
+mod laws;
 mod maps;
 mod opening;
 mod outcome;
@@ -26,6 +28,7 @@ mod types;
 
 pub use answering::answer;
 pub use edges::edge_number;
+pub use laws::a_request_has_one_answer;
 pub use outcome::Answer;
 pub use route::{Place, Side};
 pub use routes::Routes;

@@ -1,6 +1,6 @@
-ghost use Rattle.std.specs.Prelude.{◌≡◌, ◌≢◌, ◌<◌, Ok, Err, IfOk, IfErr, option_and_then, option_map};
+ghost use Rattle.std.specs.Prelude.{◌≡◌, ◌≢◌, Ok, Err, IfOk, IfErr, option_and_then, option_map};
 ghost use Rattle.json_tree.specs.Tree.{data_of};
-ghost use Rattle.tips_graph.specs.Graph.{first_of};
+ghost use Rattle.tips_graph.specs.Graph.{first_of, last_of};
 ghost use Rattle.alto_asks.specs.Asks.{required_text, wrong_text};
 ghost use Rattle.alto_answers.specs.Opening as spec;
 ghost use Rattle.alto_answers.specs.Opening.{resource_field, held_number, edge_data, graph_summary, view_summary, view_data, view_uri, opened};
@@ -56,8 +56,8 @@ pub(crate) fn opened<R: RowStore>(
     graph: &Graph<R>,
     epoch: &str,
 ) -> Result<Reply, AskFault>
-    requires { 0 < graph.now.last }
-    ensures ok { IfOk result (λ reply. opened epoch.now request.now.host (data_of ask.now) resource.now graph.now ≡ Ok reply) }
+    ensures ok { IfOk result (λ reply.
+        opened epoch.now request.now.host (data_of ask.now) resource.now graph.now ≡ Ok reply) }
     ensures err { IfErr result (λ fault. fault ≢ AskFault.Memory
         → opened epoch.now request.now.host (data_of ask.now) resource.now graph.now ≡ Err fault) }
     ensures has_bytes { IfOk result IsReply }
@@ -84,7 +84,8 @@ fn held_in<R: RowStore>(
     tag: Option<&str>,
 ) -> Result<Option<u64>, AllocError>
     ensures { IfOk result (λ held. held
-        ≡ option_and_then (held_number epoch.now (first_of graph.now) graph.now.last) (option_map (λ tag. tag.now) tag.entry)) }
+        ≡ option_and_then (held_number epoch.now (first_of graph.now) (last_of graph.now))
+        (option_map (λ tag. tag.now) tag.entry)) }
 {
     match tag {
         Some(tag) => held_number(alloc, epoch, graph.first(), graph.last(), tag),

@@ -1,5 +1,5 @@
 //! Opening the view of a resource (RFC 9569, section 6).
-ghost use Rattle.std.specs.Prelude.{◌≡◌, ◌≢◌, ◌<◌, Ok, Err, IfOk, IfErr, IfSome, option_map};
+ghost use Rattle.std.specs.Prelude.{◌≡◌, ◌≢◌, Ok, Err, IfOk, IfErr, option_map};
 ghost use Rattle.alto_rows.specs.Versions.{epoch_of};
 ghost use Rattle.alto_book.specs.Book.{Book, rows_of};
 ghost use Rattle.alto_book.specs.Legal.{IsLegal};
@@ -81,7 +81,8 @@ fn open<R: RowStore>(alloc: Global, front: &Front<R>, request: &Request) -> Resu
     ensures has_bytes { IfOk result IsReply }
     ensures ok { IfOk result (λ reply. (book : Book) → IsLegal book → StandsFor front.now book
         → opening (epoch_of (rows_of book)) (graph_named book) request.now.host request.now.body ≡ Ok reply) }
-    ensures err { IfErr result (λ fault. fault ≢ AskFault.Memory → (book : Book) → IsLegal book → StandsFor front.now book
+    ensures err { IfErr result (λ fault. fault ≢ AskFault.Memory
+        → (book : Book) → IsLegal book → StandsFor front.now book
         → opening (epoch_of (rows_of book)) (graph_named book) request.now.host request.now.body ≡ Err fault) }
 {
     let ask = read_ask(alloc, &request.body)?;
@@ -98,9 +99,7 @@ fn graph_named<'f, R: RowStore>(
     front: &'f Front<R>,
     text: &str,
 ) -> Result<Option<&'f Graph<R>>, AllocError>
-    requires { IsVersion front.now }
-    ensures some { IfOk result (λ found. IfSome found (λ graph. 0 < graph.now.last)) }
-    ensures graph { IfOk result (λ found. (book : Book) → StandsFor front.now book
+    ensures { IfOk result (λ found. (book : Book) → StandsFor front.now book
         → graph_named book text.now ≡ option_map (λ graph. graph.now) found) }
 {
     match NetName::read(alloc, text.as_bytes()) {

@@ -1,160 +1,153 @@
--- A batch of edits that break no rule, with its version rows, follows good rows and leaves good rows.
-use Rattle.std.proofs.Common.{◌≡◌, refl, ap, sym, ◌∙◌, arith}
-use Rattle.std.proofs.lemmas.List.Elements.{All-from_recursion, recursion_from_All}
-use Rattle.std.specs.Prelude.{Bool, true, false, cond, ◌&&◌, ◌+◌, ◌^◌, ◌<◌, List, [], ◌∷◌, ◌++◌, map, filter, All, Option, Some, None, Result, Ok, Err, IfSome, is_some}
-use Rattle.alto_rows.proofs.WriteLemmas.{after-append, sorted_after}
+-- A batch that follows rows: the writes of its edits and the version rows of what these touch. What edits make of good rows
+-- follows them.
+use Rattle.std.proofs.Common.{◌≡◌, refl, ap, ◌∙◌, arith}
+use Rattle.std.proofs.lemmas.Bool.{or_parts}
+use Rattle.std.proofs.lemmas.List.{append-nil}
+use Rattle.std.proofs.lemmas.List.Elements.{filter-append, recursion_from_All}
+use Rattle.std.specs.Prelude.{◌+◌, ◌≤◌, Bool, true, false, not, cond, ◌&&◌, List, [], ◌∷◌, length, map, filter, Some, is_some}
+use Rattle.std.specs.List.{AllByRecursion}
+use Rattle.std.specs.Ordering.{is_eq}
+use Rattle.alto_rows.proofs.SoundLemmas.{sound_of_good}
+use Rattle.alto_rows.proofs.TouchesLemmas.{none_part}
+use Rattle.alto_rows.proofs.WriteLemmas.{NoneWrites, value_of-after-none}
 use Rattle.alto_rows.specs.declared.key.Key.{Key}
 use Rattle.alto_rows.specs.declared.key.Key.TheVariants as key
 use Rattle.alto_rows.specs.declared.resource.Resource.{Resource}
 use Rattle.alto_rows.specs.declared.resource.Resource.TheVariants as resource
-use Rattle.alto_rows.specs.declared.value.Value.{Value}
-use Rattle.alto_rows.specs.declared.value.Value.TheVariants as value
 use Rattle.alto_rows.specs.declared.write.Write.{Write}
 use Rattle.alto_rows.specs.Accepted.{Accepted}
-use Rattle.alto_rows.specs.Good.{IsResource, Fits, AreGood}
 use Rattle.alto_rows.specs.Order.{key_cmp, net_of}
-use Rattle.alto_rows.specs.Rows.{Rows, value_of, has_row, with_value, after}
-use Rattle.alto_rows.specs.Versions.{declaring_key, is_declared, resources_of, version_of}
-use Rattle.alto_rules.specs.declared.edit.Edit.{Edit}
-use Rattle.alto_rules.specs.declared.rule.Rule.{Rule}
-use Rattle.alto_rules.specs.declared.rule.Past.{Past}
-use Rattle.alto_rules.specs.declared.rule.CompileFault.{CompileFault}
-use Rattle.alto_rules.specs.Compiled.{compiled, edits_writes, broken_by_size, unless_broken, whole_batch}
-use Rattle.alto_rules.specs.Rules.{IsEdit}
-use Rattle.alto_rules.specs.Versions.{is_touched, next_version, sequence_writes}
-use Rattle.alto_book.specs.Legal.{IsOfEdit, Follows}
-use Rattle.alto_book.proofs.EditLemmas.{Keeps, is_declared-untouched, keeps_edits}
-use Rattle.alto_book.proofs.SequenceLemmas.{IsNoVersion, next_of, value_of-batch, value_of-batch_other}
-use Rattle.alto_book.proofs.SoundLemmas.{AreSound, HasItsNames, has_row-kept, sound_of_good}
+use Rattle.alto_rows.specs.Rows.{Rows, AreSorted, value_of, after}
+use Rattle.alto_rows.specs.Touches.{part_of}
+use Rattle.alto_rows.specs.Versions.{number_in, declaring_key, is_declared, resources_of, version_of}
+use Rattle.alto_edits.proofs.LawLemmas.{Compiles, compiles, compiled_rows_are_good, compiled_writes_fit}
+use Rattle.alto_edits.proofs.LimitLemmas.{compiled_rows_are_within}
+use Rattle.alto_edits.proofs.VersionLemmas.{next_of, value_of-batch, is_declared-batch}
+use Rattle.alto_edits.specs.declared.edit.Edit.{Edit}
+use Rattle.alto_edits.specs.declared.rule.Past.{Past}
+use Rattle.alto_edits.specs.Laws.{IsOfEdit, IsOfBatch, FitsEdit, FitsBatch, MakeBatch}
+use Rattle.alto_edits.specs.Limits.{AreWithin}
+use Rattle.alto_edits.specs.Versions.{is_written, is_touched, next_version, sequence_writes}
+use Rattle.alto_book.specs.Legal.{is_version, edits_in, Follows}
 
--- each version has a next one that a row can hold
-abbrev pub HaveNextVersions : Rows → Type 0
-HaveNextVersions rows = (of : Resource) → version_of rows of + 1 < 2 ^ 63
+-- ---- the writes of edits in a batch
 
--- the names of a declared resource are of their alphabets
-pub named : (rows : Rows) (of : Resource) → AreSound rows → is_declared rows of ≡ true → IsResource of
-named rows of sound h = by of (value_of rows (declaring_key of)) h (sound.fit (declaring_key of))
+-- a write that a batch may have may be an edit's, where it is of no version
+fits_edit : (write : Write) → FitsBatch write → is_version write.key ≡ false → FitsEdit write
+fits_edit write fits h = (of_edit write.key fits.0 h, fits.1)
   where
-    by : (one : Resource) → (o : Option Value) → is_some o ≡ true → IfSome o (Fits (declaring_key one)) → IsResource one
-    by one None h fit = cc
-    by (resource.Net net) (Some v) h fit = fit.0
-    by (resource.Cost net metric) (Some v) h fit = fit.0
-    by (resource.Prop net) (Some v) h fit = fit.0
+    of_edit : (at : Key) → IsOfBatch at → is_version at ≡ false → IsOfEdit at
+    of_edit (key.Seq of) is e = cc
+    of_edit at is e = is
 
--- the version rows fit after a batch
-fit_version : (rows : Rows) (edits : List Write) (of : Resource) → AreGood rows → Keeps rows edits → HaveNextVersions rows
-    → IfSome (value_of (after rows (edits ++ sequence_writes rows edits)) (key.Seq of)) (Fits (key.Seq of))
-fit_version rows edits of good keeps next =
-    rw (value_of-batch rows edits of good.sorted (All-from_recursion (λ (write : Write). IsOfEdit write.key) edits keeps.of_edits))
-    (by (is_touched edits of) (is_declared (after rows edits) of) refl)
+edits_fit_in : (writes : List Write) → AllByRecursion FitsBatch writes → AllByRecursion FitsEdit (edits_in writes)
+edits_fit_in [] all = tt
+edits_fit_in (write ∷ writes) all = by (is_version write.key) refl (edits_fit_in writes all.1)
   where
-    by : (t d : Bool) → is_declared (after rows edits) of ≡ d → IfSome (cond (t && d) (next_of rows of) (value_of rows (key.Seq of))) (Fits (key.Seq of))
-    by true true e = (named (after rows edits) of keeps.sound e, (omega arith, next of))
-    by true false e = good.fit (key.Seq of)
-    by false d e = good.fit (key.Seq of)
+    by : (b : Bool) → is_version write.key ≡ b → AllByRecursion FitsEdit (edits_in writes) → AllByRecursion FitsEdit (edits_in (write ∷ writes))
+    by true e below = rw e below
+    by false e below = rw e (fits_edit write all.0 e, below)
 
--- any other row fits after a batch
-fit_other : (rows : Rows) (edits : List Write) (at : Key) → IsNoVersion at → AreGood rows → Keeps rows edits
-    → IfSome (value_of (after rows (edits ++ sequence_writes rows edits)) at) (Fits at)
-fit_other rows edits at no_version good keeps = rw (value_of-batch_other rows edits at good.sorted no_version) (keeps.sound.fit at)
+-- the writes of edits in a batch that follows rows are such as edits may make
+pub edits_fit : (rows : Rows) (batch : Accepted) → Follows rows batch → AllByRecursion FitsEdit (edits_in batch.writes)
+edits_fit rows batch follows = edits_fit_in batch.writes (recursion_from_All FitsBatch batch.writes follows.fit)
 
--- each row fits after a batch
-fit_batch : (rows : Rows) (edits : List Write) → AreGood rows → Keeps rows edits → HaveNextVersions rows
-    → (at : Key) → IfSome (value_of (after rows (edits ++ sequence_writes rows edits)) at) (Fits at)
+-- a key that is of no version is not that of a resource's
+apart : (at : Key) (of : Resource) → is_version at ≡ false → is_eq (key_cmp (key.Seq of) at) ≡ false
 unfolding key_cmp
-fit_batch rows edits good keeps next (key.Seq of) = fit_version rows edits of good keeps next
-fit_batch rows edits good keeps next at = fit_other rows edits at (λ of. refl) good keeps
+apart (key.Seq one) of e = cc
+apart _ of e = refl
 
--- a key that is of no version has a row after a batch where it has one after its edits
-has_row-other : (rows : Rows) (edits : List Write) (at : Key) → IsNoVersion at → AreGood rows
-    → has_row (after rows (edits ++ sequence_writes rows edits)) at ≡ has_row (after rows edits) at
-has_row-other rows edits at no_version good = ap is_some (value_of-batch_other rows edits at good.sorted no_version)
-
--- a resource is declared after a batch where it is after its edits
-pub is_declared-batch : (rows : Rows) (edits : List Write) (of : Resource) → AreGood rows
-    → is_declared (after rows (edits ++ sequence_writes rows edits)) of ≡ is_declared (after rows edits) of
-unfolding key_cmp
-is_declared-batch rows edits (resource.Cost net metric) good = has_row-other rows edits (key.Metric net metric) (λ of. refl) good
-is_declared-batch rows edits of good = has_row-other rows edits (key.Net (net_of of)) (λ one. refl) good
-
--- declared resources have versions after a batch, whatever its edits write
-pub versions_kept : (rows : Rows) (edits : List Write) → AreGood rows → All (λ write. IsOfEdit write.key) edits → (of : Resource)
-    → is_declared (after rows (edits ++ sequence_writes rows edits)) of ≡ true → has_row (after rows (edits ++ sequence_writes rows edits)) (key.Seq of) ≡ true
-versions_kept rows edits good of_edits of declared =
-    rw (value_of-batch rows edits of good.sorted of_edits) (by (is_touched edits of) refl (sym (is_declared-batch rows edits of good) ∙ declared))
+-- none of them is of a version
+pub none_versions_edited : (writes : List Write) (of : Resource) → NoneWrites (key.Seq of) (edits_in writes)
+none_versions_edited [] of = tt
+none_versions_edited (write ∷ writes) of = by (is_version write.key) refl (none_versions_edited writes of)
   where
-    by : (t : Bool) → is_touched edits of ≡ t → is_declared (after rows edits) of ≡ true
-        → is_some (cond (t && is_declared (after rows edits) of) (next_of rows of) (value_of rows (key.Seq of))) ≡ true
-    by true e h = rw h refl
-    by false e h = good.versions of (sym (is_declared-untouched rows edits of good.sorted e) ∙ h)
+    by : (b : Bool) → is_version write.key ≡ b → NoneWrites (key.Seq of) (edits_in writes) → NoneWrites (key.Seq of) (edits_in (write ∷ writes))
+    by true e below = rw e below
+    by false e below = rw e (apart write.key of e, below)
 
--- a key that has a row has one after the version rows
-kept_by_versions : (rows base : Rows) (ofs : List Resource) (at : Key) → has_row base at ≡ true → has_row (after base (map (next_version rows) ofs)) at ≡ true
-kept_by_versions rows base [] at h = h
-kept_by_versions rows base (of ∷ ofs) at h =
-    kept_by_versions rows (with_value base (key.Seq of) (next_of rows of)) ofs at (has_row-kept base (key.Seq of) (value.Num (version_of rows of + 1)) at h)
+-- ---- what the batch does
 
--- what rows name is declared after a batch, where it is after its edits
-declared_batch : (rows : Rows) (edits : List Write) → AreGood rows → AreSound (after rows edits) → (at : Key) (v : Value)
-    → value_of (after rows (edits ++ sequence_writes rows edits)) at ≡ Some v → HasItsNames (after rows (edits ++ sequence_writes rows edits)) at v
-unfolding key_cmp
-declared_batch rows edits good sound (key.Seq of) v h = All-from_recursion (λ (need : Key). has_row (after rows (edits ++ sequence_writes rows edits)) need ≡ true) [] tt
-declared_batch rows edits good sound at v h = λ k d within.
-    rw (after-append rows edits (sequence_writes rows edits))
-    (kept_by_versions rows (after rows edits) (filter (is_touched edits) (resources_of (after rows edits))) _
-    (sound.declared at v (sym (value_of-batch_other rows edits at good.sorted (λ of. refl)) ∙ h) k d within))
+-- the version row of a resource after a batch
+pub value_of-follows : (rows : Rows) (batch : Accepted) (of : Resource) → AreSorted rows → Follows rows batch
+    → value_of (after rows batch.writes) (key.Seq of)
+    ≡ cond (is_touched (edits_in batch.writes) of && is_declared (after rows (edits_in batch.writes)) of) (next_of rows of) (value_of rows (key.Seq of))
+value_of-follows rows batch of s follows =
+    ap (λ (writes : List Write). value_of (after rows writes) (key.Seq of)) follows.whole
+    ∙ value_of-batch rows (edits_in batch.writes) of s (edits_fit rows batch follows)
 
--- writes of edits that keep all leave good rows with their version rows
-pub good_batch : (rows : Rows) (edits : List Write) → AreGood rows → Keeps rows edits → HaveNextVersions rows
-    → AreGood (after rows (edits ++ sequence_writes rows edits))
-unfolding key_cmp
-good_batch rows edits good keeps next = record {
-  sorted = sorted_after rows (edits ++ sequence_writes rows edits) good.sorted;
-  fit = fit_batch rows edits good keeps next;
-  epoch = has_row-other rows edits key.Epoch (λ of. refl) good ∙ keeps.sound.epoch;
-  window = has_row-other rows edits key.Window (λ of. refl) good ∙ keeps.sound.window;
-  declared = declared_batch rows edits good keeps.sound;
-  one_pid = λ net first second prefix f s. keeps.sound.one_pid net first second prefix
-      (sym (has_row-other rows edits (key.Prefix net first prefix) (λ of. refl) good) ∙ f)
-      (sym (has_row-other rows edits (key.Prefix net second prefix) (λ of. refl) good) ∙ s);
-  versions = versions_kept rows edits good (All-from_recursion (λ (write : Write). IsOfEdit write.key) edits keeps.of_edits);
-}
-
--- the writes are those of edits that keep all and their version rows, and not too many
-pub record Compiles (rows : Rows) (past : Past) (writes : List Write) : Type 0 where
-  pub edits : List Write
-  pub keeps : Keeps rows edits
-  pub whole : writes ≡ edits ++ sequence_writes rows edits
-  pub small : broken_by_size past writes ≡ None
-
--- what edits compile to is such
-pub compiles : (rows : Rows) (edits : List Edit) (past : Past) (writes : List Write) → AreSound rows → All IsEdit edits
-    → compiled rows edits past ≡ Ok writes → Compiles rows past writes
-compiles rows edits past writes sound are made =
-    by (edits_writes rows 1 edits) (λ own e. keeps_edits edits rows 1 own sound (recursion_from_All IsEdit edits are) e) made
+-- a batch keeps a version or raises it by one
+pub version_of-batch : (rows : Rows) (batch : Accepted) (of : Resource) → AreSorted rows → Follows rows batch
+    → (version_of rows of ≤ version_of (after rows batch.writes) of) × (version_of (after rows batch.writes) of ≤ version_of rows of + 1)
+version_of-batch rows batch of s follows =
+    rw (value_of-follows rows batch of s follows) (by (is_touched (edits_in batch.writes) of && is_declared (after rows (edits_in batch.writes)) of))
   where
-    whole : (own : List Write) → Keeps rows own → (broken : Option Rule) → broken_by_size past (own ++ sequence_writes rows own) ≡ broken
-        → unless_broken 0 broken (Ok (own ++ sequence_writes rows own)) ≡ Ok writes → Compiles rows past writes
-    whole own keeps (Some rule) b h = cc
-    whole own keeps None b h =
-        let is : own ++ sequence_writes rows own ≡ writes = cc in
-        record { edits = own; keeps = keeps; whole = sym is; small = rw (← is) b }
+    by : (b : Bool) → (version_of rows of ≤ number_in (cond b (next_of rows of) (value_of rows (key.Seq of))))
+        × (number_in (cond b (next_of rows of) (value_of rows (key.Seq of))) ≤ version_of rows of + 1)
+    by true = (omega arith, omega arith)
+    by false = (omega arith, omega arith)
 
-    by : (result : Result (List Write) CompileFault) → ((own : List Write) → result ≡ Ok own → Keeps rows own)
-        → whole_batch rows past result ≡ Ok writes → Compiles rows past writes
-    by (Err fault) keeps h = cc
-    by (Ok own) keeps h = whole own (keeps own refl) (broken_by_size past (own ++ sequence_writes rows own)) refl h
+-- a resource is declared after a batch where it is after the writes of its edits
+pub is_declared-follows : (rows : Rows) (batch : Accepted) (of : Resource) → AreSorted rows → Follows rows batch
+    → is_declared (after rows batch.writes) of ≡ is_declared (after rows (edits_in batch.writes)) of
+is_declared-follows rows batch of s follows =
+    ap (λ (writes : List Write). is_declared (after rows writes) of) follows.whole ∙ is_declared-batch rows (edits_in batch.writes) of s
 
--- a batch of what edits compile to follows good rows
-pub compiled_follows : (rows : Rows) (edits : List Edit) (past : Past) (batch : Accepted) → AreGood rows → All IsEdit edits → HaveNextVersions rows
-    → compiled rows edits past ≡ Ok batch.writes → Follows rows batch
-compiled_follows rows edits past batch good are next made =
-    let it : Compiles rows past batch.writes = compiles rows edits past batch.writes (sound_of_good rows good) are made in
+-- the row that declares a resource is part of a document that the resource depends on
+abbrev declared_by : Resource → Resource
+declared_by (resource.Cost net metric) = resource.Cost net metric
+declared_by of = resource.Net (net_of of)
+
+part_declaring : (of : Resource) → part_of (declaring_key of) ≡ Some (declared_by of)
+part_declaring (resource.Net net) = refl
+part_declaring (resource.Cost net metric) = refl
+part_declaring (resource.Prop net) = refl
+
+-- writes that don't touch a resource leave whether it is declared
+pub is_declared-untouched : (rows : Rows) (writes : List Write) (of : Resource) → AreSorted rows → is_touched writes of ≡ false
+    → is_declared (after rows writes) of ≡ is_declared rows of
+is_declared-untouched rows writes of s h =
+    ap is_some (value_of-after-none rows writes (declaring_key of) s (none_part (declared_by of) (declaring_key of) writes (part_declaring of) (unwritten of h)))
+  where
+    unwritten : (one : Resource) → is_touched writes one ≡ false → is_written writes (declared_by one) ≡ false
+    unwritten (resource.Cost net metric) g = (or_parts (is_written writes (resource.Cost net metric)) (is_written writes (resource.Net net)) g).0
+    unwritten (resource.Net net) g = (or_parts (is_written writes (resource.Net net)) (is_written writes (resource.Net net)) g).1
+    unwritten (resource.Prop net) g = (or_parts (is_written writes (resource.Prop net)) (is_written writes (resource.Net net)) g).1
+
+-- ---- what edits make
+
+-- a key that edits may write is no version's
+edited : (at : Key) → IsOfEdit at → is_version at ≡ false
+edited (key.Seq of) h = absurd h
+edited _ h = refl
+
+-- of writes that edits may make all are of edits
+edits_in-edits : (writes : List Write) → AllByRecursion FitsEdit writes → edits_in writes ≡ writes
+edits_in-edits [] all = refl
+edits_in-edits (write ∷ writes) all = rw (edited write.key all.0.0, edits_in-edits writes all.1) refl
+
+-- of version rows none is
+edits_in-versions : (rows : Rows) (ofs : List Resource) → edits_in (map (next_version rows) ofs) ≡ []
+edits_in-versions rows [] = refl
+edits_in-versions rows (of ∷ ofs) = edits_in-versions rows ofs
+
+-- a batch that edits make of good rows within the limits follows them
+pub compiled_follows : (rows : Rows) (edits : List Edit) (past : Past) (batch : Accepted)
+    → MakeBatch rows edits past batch.writes → AreWithin rows → Follows rows batch
+compiled_follows rows edits past batch make within =
+    let it : Compiles rows past batch.writes = compiles rows edits past batch.writes (sound_of_good rows make.good) make.are_edits make.made in
+    let few : AreWithin (after rows batch.writes) × (length batch.writes ≤ 16384) = compiled_rows_are_within rows edits past batch.writes make within in
     record {
-      edits = it.edits;
-      of_edits = All-from_recursion (λ (write : Write). IsOfEdit write.key) it.edits it.keeps.of_edits;
-      fit = All-from_recursion (λ (write : Write). IfSome write.value (Fits write.key)) it.edits it.keeps.fit;
-      whole = it.whole;
-      good = rw it.whole (good_batch rows it.edits good it.keeps next);
-      stays = λ of h. rw it.whole (is_declared-batch rows it.edits of good ∙ it.keeps.declared of h);
+      fit = compiled_writes_fit rows edits past batch.writes make;
+      whole = rw (own it) it.whole;
+      good = compiled_rows_are_good rows edits past batch.writes make;
+      within = few.0;
+      few = few.1;
     }
+  where
+    own : (it : Compiles rows past batch.writes) → edits_in batch.writes ≡ it.edits
+    own it =
+        ap edits_in it.whole
+        ∙ (filter-append (λ (write : Write). not (is_version write.key)) it.edits (sequence_writes rows it.edits)
+        ∙ rw (edits_in-edits it.edits it.keeps.fit, edits_in-versions rows (filter (is_touched it.edits) (resources_of (after rows it.edits)))) (append-nil it.edits))

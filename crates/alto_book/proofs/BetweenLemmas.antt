@@ -1,12 +1,13 @@
 -- The batches between two places of a book, and what they bring a resource: pushes, rows and keys.
 use Rattle.std.proofs.Common.{◌≡◌, refl, ap, sym, ◌∙◌, arith, suc, zero}
+use Rattle.std.proofs.lemmas.Bool.Decides.{nat_tests}
 use Rattle.std.proofs.lemmas.Grind.{flat_map-append}
-use Rattle.std.proofs.lemmas.List.{append_assoc, length-append, take_all, take-append-drop, length-take, length-take-le}
+use Rattle.std.proofs.lemmas.List.{append_assoc, drop-append-le, length-append, take_all, take-append-drop, length-take, length-take-le}
 use Rattle.std.proofs.Math.Seq.{take-append_seam, drop-append_seam}
 use Rattle.std.proofs.lemmas.List.Elements.{filter_map-append}
 use Rattle.std.proofs.lemmas.List.Folds.{list_any-append}
 use Rattle.std.proofs.lemmas.Option.{slice_get_within}
-use Rattle.std.specs.Prelude.{ℕ, ◌+◌, ◌-◌, ◌<◌, ◌≤◌, Bool, true, false, ◌||◌, List, [], ◌∷◌, ◌++◌, length, take, drop, Option, Some, None, slice_get}
+use Rattle.std.specs.Prelude.{ℕ, ◌+◌, ◌-◌, ◌<◌, ◌≤◌, Bool, true, false, ◌||◌, ◌==◌, List, [], ◌∷◌, ◌++◌, length, take, drop, Option, Some, None, slice_get}
 use Rattle.std.specs.BTreeMap.{is_at}
 use Rattle.std.specs.List.{AllByRecursion, filter_map, flat_map, enumerate_from}
 use Rattle.alto_rows.proofs.WriteLemmas.{after-append}
@@ -21,13 +22,12 @@ use Rattle.tips_graph.specs.Graph.{Push}
 use Rattle.tips_graph.specs.Keys.{key_set}
 use Rattle.alto_book.specs.Book.{Book, state_at, rows_of, writes_in}
 use Rattle.alto_book.specs.Legal.{IsLegal}
-use Rattle.alto_book.specs.Numbers.{renews, touching, push_of, pushes_of}
+use Rattle.alto_book.specs.Numbers.{renews, touching, push_of, base_push, pushes_of, origin_of}
 use Rattle.alto_book.proofs.ChangeLemmas.{has}
 use Rattle.alto_book.proofs.GivenLemmas.{quiet_batch, touching-append}
-use Rattle.alto_book.proofs.OpeningLemmas.{version_of-opens}
-use Rattle.alto_book.proofs.PlaceLemmas.{declared_versioned, version_of-next}
-use Rattle.alto_book.proofs.NumberLemmas.{version_of-later}
+use Rattle.alto_book.proofs.PlaceLemmas.{is_equal, version_of-next}
 use Rattle.alto_book.proofs.StateLemmas.{good_state, state_at-all, state_at-next}
+use Rattle.alto_book.proofs.TrimLemmas.{slice_get-drop}
 
 -- ---- parts of lists
 
@@ -52,14 +52,6 @@ take-take zero m xs h = refl
 take-take (suc n) zero xs h = absurd (omega arith)
 take-take (suc n) (suc m) [] h = refl
 take-take {X} (suc n) (suc m) (x ∷ xs) h = ap (λ (more : List X). x ∷ more) (take-take n m xs (omega arith))
-
--- an element behind the first n is one of the list
-pub slice_get-drop : {X : Type 0} (xs : List X) (n k : ℕ) → slice_get (drop n xs) k ≡ slice_get xs (n + k)
-slice_get-drop xs zero k = ap (slice_get xs) (omega arith)
-slice_get-drop [] (suc n) k = refl
-slice_get-drop (x ∷ xs) (suc n) k =
-    let next : suc n + k ≡ suc (n + k) = omega arith in
-    rw next (slice_get-drop xs n k)
 
 -- an element of the first n is one of the list
 pub slice_get-take : {X : Type 0} (xs : List X) (n k : ℕ) (x : X) → slice_get (take n xs) k ≡ Some x → slice_get xs k ≡ Some x
@@ -109,6 +101,14 @@ batches_one book place batch h =
     ap (drop place) (take-next book.batches place batch h)
     ∙ (ap (λ (n : ℕ). drop n (take place book.batches ++ batch ∷ [])) (sym front) ∙ drop-append_seam (take place book.batches) (batch ∷ []))
 
+-- they are those up to a place between and those from there on
+pub batches_parts : (book : Book) (low middle high : ℕ) → low ≤ middle → middle ≤ high → middle ≤ length book.batches
+    → batches_from book low high ≡ batches_from book low middle ++ batches_from book middle high
+batches_parts book low middle high le more within =
+    let front : length (take middle book.batches) ≡ middle = length-take-le middle book.batches within in
+    ap (drop low) (batches_split book middle high more)
+    ∙ drop-append-le low (take middle book.batches) (batches_from book middle high) (omega (arith, front, le))
+
 -- the rows after them
 pub state_at-between : (book : Book) (low high : ℕ) → low ≤ high → state_at book high ≡ after (state_at book low) (writes_in (batches_from book low high))
 state_at-between book low high le =
@@ -136,9 +136,10 @@ one_push book of n batch h = rw h refl
 pub no_push : (book : Book) (of : Resource) (n : ℕ) (batch : Accepted) → renews of batch ≡ false → pushes_from book of n (batch ∷ []) ≡ []
 no_push book of n batch h = rw h refl
 
--- as many pushes come of the first batches as the version then is
-pub length-pushes : (book : Book) (of : Resource) (n : ℕ) → IsLegal book → length (pushes_from book of 1 (take n book.batches)) ≡ version_of (state_at book n) of
-length-pushes book of zero legal = sym (version_of-opens book.base of legal.base)
+-- the first batches raise the version by as many pushes as come of them
+pub length-pushes : (book : Book) (of : Resource) (n : ℕ) → IsLegal book
+    → length (pushes_from book of 1 (take n book.batches)) + version_of book.base of ≡ version_of (state_at book n) of
+length-pushes book of zero legal = omega arith
 length-pushes book of (suc n) legal = by (length-pushes book of n legal) (slice_get book.batches n) refl
   where
     more : (batch : Accepted) → slice_get book.batches n ≡ Some batch
@@ -148,38 +149,75 @@ length-pushes book of (suc n) legal = by (length-pushes book of n legal) (slice_
         rw (take-next book.batches n batch e, pushes_from-append book of 1 (take n book.batches) (batch ∷ []))
         (length-append (pushes_from book of 1 (take n book.batches)) (pushes_from book of (1 + length (take n book.batches)) (batch ∷ [])))
 
-    one : length (pushes_from book of 1 (take n book.batches)) ≡ version_of (state_at book n) of → (batch : Accepted) → slice_get book.batches n ≡ Some batch
-        → (b : Bool) → renews of batch ≡ b → length (pushes_from book of 1 (take (suc n) book.batches)) ≡ version_of (state_at book (suc n)) of
+    one : length (pushes_from book of 1 (take n book.batches)) + version_of book.base of ≡ version_of (state_at book n) of
+        → (batch : Accepted) → slice_get book.batches n ≡ Some batch → (b : Bool) → renews of batch ≡ b
+        → length (pushes_from book of 1 (take (suc n) book.batches)) + version_of book.base of ≡ version_of (state_at book (suc n)) of
     one below batch e true r =
         let next : version_of (state_at book (suc n)) of ≡ version_of (state_at book n) of + 1 = version_of-next book of n batch legal e ∙ rw r refl in
         let last : length (pushes_from book of (1 + length (take n book.batches)) (batch ∷ [])) ≡ 1 =
         ap length (one_push book of (1 + length (take n book.batches)) batch r) in
-        more batch e ∙ omega arith
+        omega (arith, more batch e, next, last, below)
     one below batch e false r =
         let next : version_of (state_at book (suc n)) of ≡ version_of (state_at book n) of = version_of-next book of n batch legal e ∙ rw r refl in
         let last : length (pushes_from book of (1 + length (take n book.batches)) (batch ∷ [])) ≡ 0 =
         ap length (no_push book of (1 + length (take n book.batches)) batch r) in
-        more batch e ∙ omega arith
+        omega (arith, more batch e, next, last, below)
 
-    by : length (pushes_from book of 1 (take n book.batches)) ≡ version_of (state_at book n) of → (o : Option Accepted) → slice_get book.batches n ≡ o
-        → length (pushes_from book of 1 (take (suc n) book.batches)) ≡ version_of (state_at book (suc n)) of
+    by : length (pushes_from book of 1 (take n book.batches)) + version_of book.base of ≡ version_of (state_at book n) of
+        → (o : Option Accepted) → slice_get book.batches n ≡ o
+        → length (pushes_from book of 1 (take (suc n) book.batches)) + version_of book.base of ≡ version_of (state_at book (suc n)) of
     by below None e = rw (take-end book.batches n e) below
     by below (Some batch) e = one below batch e (renews of batch) refl
 
--- there are as many pushes as the version is
-pub length-pushes_of : (book : Book) (of : Resource) → IsLegal book → length (pushes_of book of) ≡ version_of (rows_of book) of
+-- the base has a push where it shows a number
+pub length-base_push : (book : Book) (of : Resource) → length (base_push book of) + origin_of book of ≡ version_of book.base of + 1
+length-base_push book of = by (version_of book.base of == 0) refl
+  where
+    by : (b : Bool) → (version_of book.base of == 0) ≡ b → length (base_push book of) + origin_of book of ≡ version_of book.base of + 1
+    by true e =
+        let none : length (base_push book of) ≡ 0 = rw e refl in
+        let zero_there : version_of book.base of ≡ 0 = is_equal (version_of book.base of) 0 e in
+        omega (arith, none, zero_there)
+    by false e =
+        let one : length (base_push book of) ≡ 1 = rw e refl in
+        let some : 1 ≤ version_of book.base of = positive (version_of book.base of) e in
+        omega (arith, one, some)
+      where
+        positive : (v : ℕ) → (v == 0) ≡ false → 1 ≤ v
+        positive v h = grind (arith, nat_tests)
+
+-- the pushes of the base and of the first batches
+abbrev pub pushes_upto : Book → Resource → ℕ → List Push
+pushes_upto book of n = base_push book of ++ pushes_from book of 1 (take n book.batches)
+
+-- there is one for each number from the first up to the version
+pub length-pushes_upto : (book : Book) (of : Resource) (n : ℕ) → IsLegal book
+    → length (pushes_upto book of n) + origin_of book of ≡ version_of (state_at book n) of + 1
+length-pushes_upto book of n legal =
+    omega (arith, length-append (base_push book of) (pushes_from book of 1 (take n book.batches)), length-base_push book of, length-pushes book of n legal)
+
+-- with all batches
+pub length-pushes_of : (book : Book) (of : Resource) → IsLegal book → length (pushes_of book of) + origin_of book of ≡ version_of (rows_of book) of + 1
 length-pushes_of book of legal =
-    ap (λ (batches : List Accepted). length (pushes_from book of 1 batches)) (sym (take_all (length book.batches) book.batches (omega arith)))
-    ∙ (length-pushes book of (length book.batches) legal ∙ ap (λ (rows : Rows). version_of rows of) (state_at-all book))
+    ap (λ (batches : List Accepted). length (base_push book of ++ pushes_from book of 1 batches) + origin_of book of)
+    (sym (take_all (length book.batches) book.batches (omega arith)))
+    ∙ (length-pushes_upto book of (length book.batches) legal ∙ ap (λ (rows : Rows). version_of rows of + 1) (state_at-all book))
+
+-- what stands in the middle of three lists
+middle_of : (xs ys zs : List Push) (n m : ℕ) → n ≡ length xs → m ≡ length ys → take m (drop n ((xs ++ ys) ++ zs)) ≡ ys
+middle_of xs ys zs n m same long = rw (same, long, append_assoc xs ys zs, drop-append_seam xs (ys ++ zs)) (take-append_seam ys zs)
 
 -- the pushes of the batches between two places are those of the numbers between
 pub pushes_between : (book : Book) (of : Resource) (low high : ℕ) → IsLegal book → low ≤ high → low ≤ length book.batches
-    → take (version_of (state_at book high) of - version_of (state_at book low) of) (drop (version_of (state_at book low) of) (pushes_of book of))
+    → take (version_of (state_at book high) of - version_of (state_at book low) of) (drop (version_of (state_at book low) of + 1 - origin_of book of) (pushes_of book of))
     ≡ pushes_from book of (1 + low) (batches_from book low high)
-pushes_between book of low high legal le within = rw (← before, ← both) (rw whole (part front middle back))
+pushes_between book of low high legal le within =
+    ap (λ (pushes : List Push). take (version_of (state_at book high) of - version_of (state_at book low) of) (drop (version_of (state_at book low) of + 1 - origin_of book of) pushes)) whole
+    ∙ middle_of front middle back (version_of (state_at book low) of + 1 - origin_of book of) (version_of (state_at book high) of - version_of (state_at book low) of)
+    (omega (arith, before)) (omega (arith, before, both, length-append front middle))
   where
     front : List Push
-    front = pushes_from book of 1 (take low book.batches)
+    front = pushes_upto book of low
 
     middle : List Push
     middle = pushes_from book of (1 + low) (batches_from book low high)
@@ -187,28 +225,25 @@ pushes_between book of low high legal le within = rw (← before, ← both) (rw 
     back : List Push
     back = pushes_from book of (1 + length (take high book.batches)) (drop high book.batches)
 
-    before : length front ≡ version_of (state_at book low) of
-    before = length-pushes book of low legal
+    before : length front + origin_of book of ≡ version_of (state_at book low) of + 1
+    before = length-pushes_upto book of low legal
 
-    upto : pushes_from book of 1 (take high book.batches) ≡ front ++ middle
+    upto : pushes_upto book of high ≡ front ++ middle
     upto =
-        ap (pushes_from book of 1) (batches_split book low high le)
-        ∙ (pushes_from-append book of 1 (take low book.batches) (batches_from book low high)
-        ∙ ap (λ (n : ℕ). front ++ pushes_from book of (1 + n) (batches_from book low high)) (length-take-le low book.batches within))
+        ap (λ (batches : List Accepted). base_push book of ++ pushes_from book of 1 batches) (batches_split book low high le)
+        ∙ (ap (λ (pushes : List Push). base_push book of ++ pushes) (pushes_from-append book of 1 (take low book.batches) (batches_from book low high))
+        ∙ (sym (append_assoc (base_push book of) (pushes_from book of 1 (take low book.batches)) (pushes_from book of (1 + length (take low book.batches)) (batches_from book low high)))
+        ∙ ap (λ (n : ℕ). front ++ pushes_from book of (1 + n) (batches_from book low high)) (length-take-le low book.batches within)))
 
-    both : length (front ++ middle) ≡ version_of (state_at book high) of
-    both = ap length (sym upto) ∙ length-pushes book of high legal
+    both : length (front ++ middle) + origin_of book of ≡ version_of (state_at book high) of + 1
+    both = ap (λ (pushes : List Push). length pushes + origin_of book of) (sym upto) ∙ length-pushes_upto book of high legal
 
     whole : pushes_of book of ≡ (front ++ middle) ++ back
     whole =
-        ap (pushes_from book of 1) (sym (take-append-drop high book.batches))
-        ∙ (pushes_from-append book of 1 (take high book.batches) (drop high book.batches)
-        ∙ ap (λ (pushes : List Push). pushes ++ back) upto)
-
-    part : (xs ys zs : List Push) → take (length (xs ++ ys) - length xs) (drop (length xs) ((xs ++ ys) ++ zs)) ≡ ys
-    part xs ys zs =
-        let room : length (xs ++ ys) - length xs ≡ length ys = omega (arith, length-append xs ys) in
-        rw (room, append_assoc xs ys zs, drop-append_seam xs (ys ++ zs)) (take-append_seam ys zs)
+        ap (λ (batches : List Accepted). base_push book of ++ pushes_from book of 1 batches) (sym (take-append-drop high book.batches))
+        ∙ (ap (λ (pushes : List Push). base_push book of ++ pushes) (pushes_from-append book of 1 (take high book.batches) (drop high book.batches))
+        ∙ (sym (append_assoc (base_push book of) (pushes_from book of 1 (take high book.batches)) back)
+        ∙ ap (λ (pushes : List Push). pushes ++ back) upto))
 
 -- ---- their keys
 
@@ -254,11 +289,3 @@ quiet_declared book of low high legal declared = all_by_places (IsQuiet of) (bat
         let below : low + k < high = omega (arith, length-take high book.batches) in
         quiet_batch (state_at book (low + k)) batch of (good_state book (low + k) legal) (legal.each (low + k) batch there)
         (rw (state_at-next book (low + k) batch there) at (declared (low + k) (omega arith) below)) r
-
--- so it is once a resource has a version
-pub quiet_between : (book : Book) (of : Resource) (low high : ℕ) → IsLegal book → 1 ≤ version_of (state_at book low) of
-    → AllByRecursion (IsQuiet of) (batches_from book low high)
-quiet_between book of low high legal versioned =
-    quiet_declared book of low high legal
-    (λ m le less. let upto : version_of (state_at book low) of ≤ version_of (state_at book (suc m)) of = version_of-later book low (suc m) of legal (omega arith) in
-    declared_versioned book (suc m) of legal (omega arith))

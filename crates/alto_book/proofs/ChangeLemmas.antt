@@ -1,9 +1,9 @@
 -- What changes in the rows of a legal book between two of its states, and what an extension of a book leaves.
 use Rattle.std.proofs.Common.{◌≡◌, refl, ap, sym, ◌∙◌, suc, zero}
 use Rattle.std.proofs.lemmas.Bool.{both_ways}
-use Rattle.std.proofs.lemmas.List.{take-append-le}
+use Rattle.std.proofs.lemmas.List.{append_assoc, map-append, take-append-le}
 use Rattle.std.proofs.lemmas.List.Elements.{recursion_from_All}
-use Rattle.std.specs.Prelude.{ℕ, ◌≤◌, Bool, true, false, List, [], ◌∷◌, ◌++◌, length, Option, Some, None, IfSome, slice_get}
+use Rattle.std.specs.Prelude.{ℕ, ◌≤◌, Bool, true, false, List, [], ◌∷◌, ◌++◌, length, map, Option, Some, None, slice_get}
 use Rattle.std.specs.BTreeMap.{is_at}
 use Rattle.std.specs.List.{AllByRecursion, list_any}
 use Rattle.std.specs.Ordering.{is_eq}
@@ -14,16 +14,14 @@ use Rattle.alto_rows.specs.declared.write.Write.{Write}
 use Rattle.alto_rows.proofs.OrderLemmas.{one_key}
 use Rattle.alto_rows.proofs.WriteLemmas.{NoneWrites, value_of-after-none}
 use Rattle.alto_rows.specs.Accepted.{Accepted}
-use Rattle.alto_rows.specs.Good.{Fits}
 use Rattle.alto_rows.specs.Order.{key_cmp}
 use Rattle.alto_rows.specs.Rows.{Rows, value_of, after}
 use Rattle.alto_rows.specs.Touches.{touches}
 use Rattle.alto_rows.specs.Versions.{number_in, window_of}
-use Rattle.alto_book.specs.Book.{Book, Extends, state_at, rows_of, writes_in}
-use Rattle.alto_book.specs.Laws.{IsOfBatch}
+use Rattle.alto_edits.specs.Laws.{IsOfBatch, FitsBatch}
+use Rattle.alto_book.specs.Book.{Book, Extends, kept_of, all_kept, state_at, rows_of, writes_in}
 use Rattle.alto_book.specs.Legal.{IsLegal}
 use Rattle.alto_book.specs.Numbers.{touching}
-use Rattle.alto_book.proofs.FitLemmas.{writes_fit}
 use Rattle.alto_book.proofs.StateLemmas.{state_at-next, state_at-past, state_at-all, good_state}
 
 -- ---- keys that no write is of
@@ -55,7 +53,7 @@ none_writes of at (write ∷ writes) t h =
 
 -- ---- the epoch and the window
 
-none_of_batch_epoch : (writes : List Write) → AllByRecursion (λ write. IsOfBatch write.key × IfSome write.value (Fits write.key)) writes → NoneWrites key.Epoch writes
+none_of_batch_epoch : (writes : List Write) → AllByRecursion FitsBatch writes → NoneWrites key.Epoch writes
 unfolding key_cmp
 none_of_batch_epoch [] all = tt
 none_of_batch_epoch (write ∷ writes) all = (by write.key all.0.0, none_of_batch_epoch writes all.1)
@@ -65,7 +63,7 @@ none_of_batch_epoch (write ∷ writes) all = (by write.key all.0.0, none_of_batc
     by key.Window h = absurd h
     by _ h = refl
 
-none_of_batch_window : (writes : List Write) → AllByRecursion (λ write. IsOfBatch write.key × IfSome write.value (Fits write.key)) writes → NoneWrites key.Window writes
+none_of_batch_window : (writes : List Write) → AllByRecursion FitsBatch writes → NoneWrites key.Window writes
 unfolding key_cmp
 none_of_batch_window [] all = tt
 none_of_batch_window (write ∷ writes) all = (by write.key all.0.0, none_of_batch_window writes all.1)
@@ -76,7 +74,7 @@ none_of_batch_window (write ∷ writes) all = (by write.key all.0.0, none_of_bat
     by _ h = refl
 
 -- a key that batches don't write keeps its value
-kept : (at : Key) → ((writes : List Write) → AllByRecursion (λ write. IsOfBatch write.key × IfSome write.value (Fits write.key)) writes → NoneWrites at writes)
+kept : (at : Key) → ((writes : List Write) → AllByRecursion FitsBatch writes → NoneWrites at writes)
     → (book : Book) (n : ℕ) → IsLegal book → value_of (state_at book n) at ≡ value_of book.base at
 kept at none book zero legal = refl
 kept at none book (suc n) legal = by (kept at none book n legal) (slice_get book.batches n) refl
@@ -86,7 +84,7 @@ kept at none book (suc n) legal = by (kept at none book n legal) (slice_get book
     by below (Some batch) e =
         ap (λ (rows : Rows). value_of rows at) (state_at-next book n batch e)
         ∙ (value_of-after-none (state_at book n) batch.writes at (good_state book n legal).sorted
-        (none batch.writes (recursion_from_All (λ (write : Write). IsOfBatch write.key × IfSome write.value (Fits write.key)) batch.writes (writes_fit book n batch legal e)))
+        (none batch.writes (recursion_from_All FitsBatch batch.writes (legal.each n batch e).fit))
         ∙ below)
 
 -- the epoch stays
@@ -109,8 +107,13 @@ pub state_at-extended : (earlier later : Book) (n : ℕ) → Extends later earli
 state_at-extended earlier later n more le =
     rw (more.base, more.batches) (ap (λ (batches : List Accepted). after earlier.base (writes_in batches)) (take-append-le n earlier.batches more.more le))
 
--- its batches stand where they stood
-pub slice_get-extended : (xs ys : List Accepted) (n : ℕ) (x : Accepted) → slice_get xs n ≡ Some x → slice_get (xs ++ ys) n ≡ Some x
+-- the first items of a list stand where they stood
+pub slice_get-extended : {X : Type 0} (xs ys : List X) (n : ℕ) (x : X) → slice_get xs n ≡ Some x → slice_get (xs ++ ys) n ≡ Some x
 slice_get-extended [] ys n x h = cc
 slice_get-extended (first ∷ xs) ys zero x h = h
 slice_get-extended (first ∷ xs) ys (suc n) x h = slice_get-extended xs ys n x h
+
+-- what was kept of its batches stands before what is kept of more
+pub all_kept-extended : (earlier later : Book) → (more : Extends later earlier) → all_kept later ≡ all_kept earlier ++ map kept_of more.more
+all_kept-extended earlier later more =
+    rw (more.receipts, more.batches, map-append kept_of earlier.batches more.more) (sym (append_assoc earlier.receipts (map kept_of earlier.batches) (map kept_of more.more)))

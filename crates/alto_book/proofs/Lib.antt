@@ -1,10 +1,9 @@
 pub mod AcceptanceLemmas
 pub mod BatchLemmas
 pub mod BetweenLemmas
-pub mod BookLaws
 pub mod ChangeLemmas
-pub mod EditLemmas
-pub mod FitLemmas
+pub mod DeclaredLemmas
+pub mod EarlierLemmas
 pub mod GivenLemmas
 pub mod GraphLemmas
 pub mod GrownLemmas
@@ -15,11 +14,10 @@ pub mod PlaceLemmas
 pub mod PushLemmas
 pub mod RefusalLemmas
 pub mod RepeatLemmas
-pub mod SameLemmas
-pub mod SequenceLemmas
-pub mod SoundLemmas
 pub mod StateLemmas
 pub mod StayLemmas
 pub mod TellLemmas
-pub mod EarlierLemmas
+pub mod TrimLemmas
+pub mod TrimGraphLemmas
+pub mod TrimNumberLemmas
 pub mod WalkLemmas

@@ -7,7 +7,8 @@ use Rattle.alto_rows.specs.Accepted.{Accepted}
 use Rattle.alto_rows.specs.Versions.{version_of}
 use Rattle.alto_book.specs.Book.{Book, state_at}
 use Rattle.alto_book.specs.Legal.{IsLegal}
-use Rattle.alto_book.proofs.StateLemmas.{state_at-next, state_at-past, good_state, version_of-batch}
+use Rattle.alto_book.proofs.BatchLemmas.{version_of-batch}
+use Rattle.alto_book.proofs.StateLemmas.{state_at-next, state_at-past, good_state}
 
 -- a later version is no lower
 pub version_of-later : (book : Book) (m n : ℕ) (of : Resource) → IsLegal book → m ≤ n → version_of (state_at book m) of ≤ version_of (state_at book n) of

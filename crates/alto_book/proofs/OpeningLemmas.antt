@@ -9,13 +9,17 @@ use Rattle.alto_rows.specs.declared.key.Key.{Key}
 use Rattle.alto_rows.specs.declared.key.Key.TheVariants as key
 use Rattle.alto_rows.specs.declared.resource.Resource.{Resource}
 use Rattle.alto_rows.specs.declared.resource.Resource.TheVariants as resource
+use Rattle.alto_rows.specs.declared.span.Span.{Span}
+use Rattle.alto_rows.specs.declared.span.Span.TheVariants as span
 use Rattle.alto_rows.specs.declared.value.Value.{Value}
 use Rattle.alto_rows.specs.Good.{Fits, needs, AreGood}
 use Rattle.alto_rows.specs.Order.{key_cmp}
-use Rattle.alto_rows.specs.Rows.{Rows, value_of, has_row}
+use Rattle.alto_rows.specs.Rows.{value_of, has_row}
+use Rattle.alto_rows.specs.Span.{count_in}
 use Rattle.alto_rows.specs.Versions.{is_declared, version_of}
+use Rattle.alto_edits.specs.Limits.{most_in, AreWithin}
 use Rattle.alto_book.specs.Book.{opening_rows, opening_book}
-use Rattle.alto_book.specs.Legal.{Opens, IsLegal}
+use Rattle.alto_book.specs.Legal.{IsLegal}
 
 -- each row of a new book fits
 fit_opening : (epoch : List ℕ) (window : ℕ) → IsEpoch epoch → 2 ≤ window → window ≤ 32
@@ -53,20 +57,33 @@ good_opening epoch window is low high = record {
   versions = versions_opening epoch window;
 }
 
--- rows with which a book may open are good
-pub good_opens : (rows : Rows) → Opens rows → AreGood rows
-good_opens rows opens = rw opens.whole (good_opening opens.epoch opens.window opens.is_epoch opens.at_least opens.at_most)
+-- a new book has no rows that are counted
+within_opening : (epoch : List ℕ) (window : ℕ) → AreWithin (opening_rows epoch window)
+within_opening epoch window = record { spans = none; all = omega arith }
+  where
+    none : (of : Span) → IfSome (most_in of) (λ most. count_in (opening_rows epoch window) of ≤ most)
+    none span.Nets = omega arith
+    none (span.Pids net) = omega arith
+    none (span.Prefixes net) = omega arith
+    none (span.Metrics net) = omega arith
+    none (span.CostsIn net metric) = omega arith
+    none _ = tt
 
--- rows with which a book may open have no versions
-pub version_of-opens : (rows : Rows) (of : Resource) → Opens rows → version_of rows of ≡ 0
+-- no resource has a version in a new book
+version_of-opening : (epoch : List ℕ) (window : ℕ) (of : Resource) → version_of (opening_rows epoch window) of ≡ 0
 unfolding key_cmp
-version_of-opens rows of opens = rw opens.whole refl
+version_of-opening epoch window of = refl
 
 -- a new book is legal
 pub legal_opening : (epoch : List ℕ) (window : ℕ) → IsEpoch epoch → 2 ≤ window → window ≤ 32 → IsLegal (opening_book epoch window)
 unfolding IsDistinct
 legal_opening epoch window is low high = record {
-  base = record { epoch = epoch; window = window; is_epoch = is; at_least = low; at_most = high; whole = refl };
+  base = record {
+    good = good_opening epoch window is low high;
+    within = within_opening epoch window;
+    versions = λ of. rw (version_of-opening epoch window of) (omega arith);
+  };
+  small = omega arith;
   each = λ n batch h. cc;
   ids = tt;
   moments = λ m n earlier later le h g. cc;

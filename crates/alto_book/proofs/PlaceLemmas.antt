@@ -1,4 +1,4 @@
--- Where a number of a resource was given, in a legal book: by the one batch that raises the version to it.
+-- Where a number of a resource was given, in a legal book: by the one batch that raises the version to it, or by the base.
 use Rattle.std.proofs.Common.{◌≡◌, refl, ap, sym, ◌∙◌, arith, suc, zero, inl, inr, get_or}
 use Rattle.std.proofs.lemmas.Bool.{cases_lt}
 use Rattle.std.proofs.lemmas.Bool.Decides.{nat_tests}
@@ -8,15 +8,14 @@ use Rattle.std.specs.Prelude.{ℕ, ◌+◌, ◌<◌, ◌≤◌, ◌⊎◌, ◌==
 use Rattle.std.specs.List.{position_or_len}
 use Rattle.alto_rows.specs.declared.resource.Resource.{Resource}
 use Rattle.alto_rows.specs.Accepted.{Accepted}
-use Rattle.alto_rows.specs.Rows.{Rows, after}
-use Rattle.alto_rows.specs.Versions.{is_declared, version_of}
-use Rattle.alto_book.specs.Book.{Book, state_at}
-use Rattle.alto_book.specs.Legal.{Follows, IsLegal}
-use Rattle.alto_book.specs.Numbers.{gives, renews, batches_to, rows_at}
-use Rattle.alto_book.proofs.GivenLemmas.{declared_quiet, declared_renewed, raised, gives-batch, renews-batch, version_of-renewed}
+use Rattle.alto_rows.specs.Rows.{Rows}
+use Rattle.alto_rows.specs.Versions.{version_of}
+use Rattle.alto_book.specs.Book.{Book, state_at, rows_of}
+use Rattle.alto_book.specs.Legal.{edits_in, Follows, IsLegal}
+use Rattle.alto_book.specs.Numbers.{gives, renews, batches_to, rows_at, origin_of}
+use Rattle.alto_book.proofs.GivenLemmas.{raised, gives-batch, renews-batch, version_of-renewed}
 use Rattle.alto_book.proofs.NumberLemmas.{version_of-later}
-use Rattle.alto_book.proofs.OpeningLemmas.{version_of-opens}
-use Rattle.alto_book.proofs.StateLemmas.{state_at-next, state_at-past, good_state}
+use Rattle.alto_book.proofs.StateLemmas.{state_at-next, state_at-past, state_at-all, good_state}
 
 -- the version after one batch more
 pub version_of-next : (book : Book) (of : Resource) (n : ℕ) (batch : Accepted) → IsLegal book → slice_get book.batches n ≡ Some batch
@@ -38,11 +37,10 @@ pub record HasPlace (book : Book) (of : Resource) (number n : ℕ) : Type 0 wher
   pub within : place < n
   pub given : IsGivenAt book of number place batch
 
--- each number up to a version has been given
-pub place_of : (book : Book) (of : Resource) (number n : ℕ) → IsLegal book → 1 ≤ number → number ≤ version_of (state_at book n) of → HasPlace book of number n
-place_of book of number zero legal low high =
-    let none : version_of (state_at book zero) of ≡ 0 = version_of-opens book.base of legal.base in
-    absurd (omega arith)
+-- each number above that of the base, up to a version, has been given
+pub place_of : (book : Book) (of : Resource) (number n : ℕ) → IsLegal book → version_of book.base of < number → number ≤ version_of (state_at book n) of
+    → HasPlace book of number n
+place_of book of number zero legal low high = absurd (omega (arith, low, high))
 place_of book of number (suc n) legal low high = by (λ h. place_of book of number n legal low h) (slice_get book.batches n) refl
   where
     later : HasPlace book of number n → HasPlace book of number (suc n)
@@ -72,67 +70,93 @@ place_of book of number (suc n) legal low high = by (λ h. place_of book of numb
         later (below (omega arith))
     by below (Some batch) e = one batch e (renews of batch) refl below
 
--- a number is another than this, or this
-tested : (a b : ℕ) → a < b → (a == b) ≡ false
-tested a b h = grind (arith, nat_tests)
+-- a number above that of the base, up to the version of a book, has its place
+pub place_now : (book : Book) (of : Resource) (number : ℕ) → IsLegal book → version_of book.base of < number → number ≤ version_of (rows_of book) of
+    → HasPlace book of number (length book.batches)
+place_now book of number legal low high = place_of book of number (length book.batches) legal low (rw (state_at-all book) high)
 
+-- a number is this
 pub equal : (a b : ℕ) → a ≡ b → (a == b) ≡ true
 equal a b h = grind (arith, nat_tests)
+
+pub is_equal : (a b : ℕ) → (a == b) ≡ true → a ≡ b
+is_equal a b h = grind (arith, nat_tests)
+
+-- or another
+pub apart : (a b : ℕ) → a < b → (a == b) ≡ false
+apart a b h = grind (arith, nat_tests)
+
+pub above_zero : (a : ℕ) → 1 ≤ a → (a == 0) ≡ false
+above_zero a h = grind (arith, nat_tests)
+
+pub is_apart : (a b : ℕ) → (a == b) ≡ false → a ≤ b → a < b
+is_apart a b h le = grind (arith, nat_tests)
 
 -- the batch at a number's place gives it
 pub given_there : (book : Book) (of : Resource) (number place : ℕ) (batch : Accepted) → IsLegal book → IsGivenAt book of number place batch
     → gives of number batch ≡ true
 given_there book of number place batch legal given =
     let follows : Follows (state_at book place) batch = legal.each place batch given.there in
-    let raises : raised (state_at book place) follows.edits of ≡ true = sym (renews-batch (state_at book place) batch of follows) ∙ given.renewed in
+    let raises : raised (state_at book place) (edits_in batch.writes) of ≡ true = sym (renews-batch (state_at book place) batch of follows) ∙ given.renewed in
     gives-batch (state_at book place) batch of number follows
     ∙ rw (raises, equal (version_of (state_at book place) of + 1) number given.before) refl
+
+-- a batch that gives a number stands at its place
+pub given_back : (book : Book) (of : Resource) (number n : ℕ) (batch : Accepted) → IsLegal book → slice_get book.batches n ≡ Some batch
+    → gives of number batch ≡ true → IsGivenAt book of number n batch
+given_back book of number n batch legal there gave =
+    by (raised (state_at book n) (edits_in batch.writes) of) refl (version_of (state_at book n) of + 1 == number) refl
+  where
+    follows : Follows (state_at book n) batch
+    follows = legal.each n batch there
+
+    both : (raised (state_at book n) (edits_in batch.writes) of && version_of (state_at book n) of + 1 == number) ≡ true
+    both = sym (gives-batch (state_at book n) batch of number follows) ∙ gave
+
+    by : (b : Bool) → raised (state_at book n) (edits_in batch.writes) of ≡ b → (t : Bool) → (version_of (state_at book n) of + 1 == number) ≡ t
+        → IsGivenAt book of number n batch
+    by true e true f = record {
+      there = there;
+      before = is_equal (version_of (state_at book n) of + 1) number f;
+      renewed = renews-batch (state_at book n) batch of follows ∙ e;
+    }
+    by true e false f = let never : true ≡ false = sym both ∙ rw (e, f) refl in cc
+    by false e t f = let never : true ≡ false = sym both ∙ rw e refl in cc
+
+-- the version after that batch
+pub version_of-given : (book : Book) (of : Resource) (number place : ℕ) (batch : Accepted) → IsLegal book → IsGivenAt book of number place batch
+    → version_of (state_at book (suc place)) of ≡ number
+version_of-given book of number place batch legal given =
+    version_of-next book of place batch legal given.there ∙ rw given.renewed given.before
+
+-- a lower number was given before
+pub given_before : (book : Book) (of : Resource) (i j m n : ℕ) (first last : Accepted) → IsLegal book
+    → IsGivenAt book of i m first → IsGivenAt book of j n last → i ≤ j → m ≤ n
+given_before book of i j m n first last legal low high le = by (cases_lt n m)
+  where
+    by : (n < m) ⊎ (m ≤ n) → m ≤ n
+    by (inr h) = h
+    by (inl h) =
+        let upto : version_of (state_at book (suc n)) of ≤ version_of (state_at book m) of = version_of-later book (suc n) m of legal h in
+        let reached : version_of (state_at book (suc n)) of ≡ j = version_of-given book of j n last legal high in
+        let before : version_of (state_at book m) of + 1 ≡ i = low.before in
+        absurd (omega arith)
 
 -- no other batch gives it
 pub given_once : (book : Book) (of : Resource) (number place : ℕ) (batch : Accepted) → IsLegal book → IsGivenAt book of number place batch
     → (n : ℕ) (other : Accepted) → slice_get book.batches n ≡ Some other → gives of number other ≡ true → n ≡ place
 given_once book of number place batch legal given n other there gave =
-    by (raised (state_at book n) follows.edits of) refl (version_of (state_at book n) of + 1 == number) refl
-  where
-    follows : Follows (state_at book n) other
-    follows = legal.each n other there
-
-    both : (raised (state_at book n) follows.edits of && version_of (state_at book n) of + 1 == number) ≡ true
-    both = sym (gives-batch (state_at book n) other of number follows) ∙ gave
-
-    same : (v : ℕ) → (v == number) ≡ true → v ≡ number
-    same v h = grind (arith, nat_tests)
-
-    apart : version_of (state_at book n) of + 1 ≡ number → version_of (state_at book (suc n)) of ≡ number
-        → (n < place) ⊎ (place ≤ n) → (place < n) ⊎ (n ≤ place) → n ≡ place
-    apart was is (inl h) side =
-        let upto : version_of (state_at book (suc n)) of ≤ version_of (state_at book place) of = version_of-later book (suc n) place of legal h in
-        let here : version_of (state_at book place) of + 1 ≡ number = given.before in
-        absurd (omega arith)
-    apart was is (inr low) (inl h) =
-        let upto : version_of (state_at book (suc place)) of ≤ version_of (state_at book n) of = version_of-later book (suc place) n of legal h in
-        let here : version_of (state_at book place) of + 1 ≡ number = given.before in
-        let next : version_of (state_at book (suc place)) of ≡ version_of (state_at book place) of + 1 =
-        version_of-next book of place batch legal given.there ∙ rw given.renewed refl in
-        absurd (omega arith)
-    apart was is (inr low) (inr high) = omega arith
-
-    by : (b : Bool) → raised (state_at book n) follows.edits of ≡ b → (t : Bool) → (version_of (state_at book n) of + 1 == number) ≡ t → n ≡ place
-    by true e true f =
-        let was : version_of (state_at book n) of + 1 ≡ number = same (version_of (state_at book n) of + 1) f in
-        let renewed : renews of other ≡ true = renews-batch (state_at book n) other of follows ∙ e in
-        apart was (version_of-next book of n other legal there ∙ (rw renewed was)) (cases_lt n place) (cases_lt place n)
-    by true e false f = let no_longer : true ≡ false = sym both ∙ rw (e, f) refl in cc
-    by false e t f = let no_longer : true ≡ false = sym both ∙ rw e refl in cc
-
--- so as many batches lead to it as stand before that place, and one
-pub batches_to-given : (book : Book) (of : Resource) (number place : ℕ) (batch : Accepted) → IsLegal book → IsGivenAt book of number place batch
-    → batches_to book of number ≡ suc place
-batches_to-given book of number place batch legal given =
-    let bound : place < length book.batches = within in
-    let at : position_or_len (gives of number) book.batches ≡ place =
-    position_or_len_is (gives of number) book.batches place batch (omega arith) earlier (λ _. here) in
+    let too : IsGivenAt book of number n other = given_back book of number n other legal there gave in
+    let upto : n ≤ place = given_before book of number number n place other batch legal too given (omega arith) in
+    let from : place ≤ n = given_before book of number number place n batch other legal given too (omega arith) in
     omega arith
+
+-- it stands where the first batch is found that gives the number
+pub position-given : (book : Book) (of : Resource) (number place : ℕ) (batch : Accepted) → IsLegal book → IsGivenAt book of number place batch
+    → position_or_len (gives of number) book.batches ≡ place
+position-given book of number place batch legal given =
+    let bound : place < length book.batches = within in
+    position_or_len_is (gives of number) book.batches place batch (omega arith) earlier (λ _. here)
   where
     within : place < length book.batches
     within = slice_get_within book.batches place batch given.there
@@ -151,64 +175,80 @@ batches_to-given book of number place batch legal given =
             absurd (omega arith)
         by false e = e
 
+-- the version of the base is below a number that was given
+pub base_below : (book : Book) (of : Resource) (number place : ℕ) (batch : Accepted) → IsLegal book → IsGivenAt book of number place batch
+    → version_of book.base of < number
+base_below book of number place batch legal given =
+    let upto : version_of (state_at book zero) of ≤ version_of (state_at book place) of = version_of-later book zero place of legal (omega arith) in
+    let before : version_of (state_at book place) of + 1 ≡ number = given.before in
+    omega arith
+
+-- so as many batches lead to it as stand before that place, and one
+pub batches_to-given : (book : Book) (of : Resource) (number place : ℕ) (batch : Accepted) → IsLegal book → IsGivenAt book of number place batch
+    → batches_to book of number ≡ suc place
+batches_to-given book of number place batch legal given =
+    let at : position_or_len (gives of number) book.batches ≡ place = position-given book of number place batch legal given in
+    let one : place + 1 ≡ suc place = omega arith in
+    rw (apart (version_of book.base of) number (base_below book of number place batch legal given), at) one
+
+-- no batch leads to the number of the base
+pub batches_to-base : (book : Book) (of : Resource) (number : ℕ) → version_of book.base of ≡ number → batches_to book of number ≡ 0
+batches_to-base book of number same = rw (equal (version_of book.base of) number same) refl
+
 -- the rows at it are those after that batch
 pub rows_at-given : (book : Book) (of : Resource) (number place : ℕ) (batch : Accepted) → IsLegal book → IsGivenAt book of number place batch
     → rows_at book of number ≡ state_at book (suc place)
 rows_at-given book of number place batch legal given = ap (state_at book) (batches_to-given book of number place batch legal given)
 
--- the version after that batch
-pub version_of-given : (book : Book) (of : Resource) (number place : ℕ) (batch : Accepted) → IsLegal book → IsGivenAt book of number place batch
-    → version_of (state_at book (suc place)) of ≡ number
-version_of-given book of number place batch legal given =
-    version_of-next book of place batch legal given.there ∙ rw given.renewed given.before
+-- ---- the batches that lead to a number
 
--- ---- a resource that has a version is declared
+-- with the last of these batches the version reaches the number
+pub record IsReached (book : Book) (of : Resource) (number : ℕ) : Type 0 where
+  pub within : batches_to book of number ≤ length book.batches
+  pub version : version_of (state_at book (batches_to book of number)) of ≡ number
+  pub lowest : (m : ℕ) → m < batches_to book of number → version_of (state_at book m) of < number
 
-pub declared_versioned : (book : Book) (n : ℕ) (of : Resource) → IsLegal book → 1 ≤ version_of (state_at book n) of → is_declared (state_at book n) of ≡ true
-declared_versioned book zero of legal some =
-    let none : version_of (state_at book zero) of ≡ 0 = version_of-opens book.base of legal.base in
-    absurd (omega arith)
-declared_versioned book (suc n) of legal some = by (λ low. declared_versioned book n of legal low) (slice_get book.batches n) refl
+reached_by : (book : Book) (of : Resource) (number n : ℕ) → batches_to book of number ≡ n → n ≤ length book.batches → version_of (state_at book n) of ≡ number
+    → ((m : ℕ) → m < n → version_of (state_at book m) of < number) → IsReached book of number
+reached_by book of number n e within version lowest =
+    record { within = rw e within; version = rw e version; lowest = λ m less. lowest m (rw e at less) }
+
+reached_given : (book : Book) (of : Resource) (number : ℕ) → IsLegal book → HasPlace book of number (length book.batches) → IsReached book of number
+reached_given book of number legal found =
+    let within : found.place < length book.batches = found.within in
+    reached_by book of number (suc found.place) (batches_to-given book of number found.place found.batch legal found.given) (omega arith)
+    (version_of-given book of number found.place found.batch legal found.given) lowest
   where
-    by : (1 ≤ version_of (state_at book n) of → is_declared (state_at book n) of ≡ true) → (o : Option Accepted) → slice_get book.batches n ≡ o
-        → is_declared (state_at book (suc n)) of ≡ true
-    by below None e = rw (state_at-past book n e) (below (rw (state_at-past book n e) at some))
-    by below (Some batch) e = rw (state_at-next book n batch e) (either (renews of batch) refl)
-      where
-        either : (b : Bool) → renews of batch ≡ b → is_declared (after (state_at book n) batch.writes) of ≡ true
-        either true r = declared_renewed (state_at book n) batch of (good_state book n legal) (legal.each n batch e) r
-        either false r =
-            let same : version_of (state_at book (suc n)) of ≡ version_of (state_at book n) of = version_of-next book of n batch legal e ∙ rw r refl in
-            (legal.each n batch e).stays of (below (omega arith))
+    lowest : (m : ℕ) → m < suc found.place → version_of (state_at book m) of < number
+    lowest m less =
+        let upto : version_of (state_at book m) of ≤ version_of (state_at book found.place) of = version_of-later book m found.place of legal (omega arith) in
+        let before : version_of (state_at book found.place) of + 1 ≡ number = found.given.before in
+        omega arith
 
--- ---- a declared resource was declared since its last number
-
--- before a batch that gives it no number
-declared_before : (book : Book) (n : ℕ) (of : Resource) → IsLegal book → is_declared (state_at book (suc n)) of ≡ true
-    → version_of (state_at book (suc n)) of ≡ version_of (state_at book n) of → is_declared (state_at book n) of ≡ true
-declared_before book n of legal now same = by (slice_get book.batches n) refl
+-- a number from the first on is that of the base, or was given
+pub base_or_given : {X : Type 0} (book : Book) (of : Resource) (number : ℕ) → IsLegal book → origin_of book of ≤ number → number ≤ version_of (rows_of book) of
+    → (version_of book.base of ≡ number → 1 ≤ number → X) → (HasPlace book of number (length book.batches) → X) → X
+base_or_given {X} book of number legal low high base given = by (version_of book.base of == number) refl
   where
-    by : (o : Option Accepted) → slice_get book.batches n ≡ o → is_declared (state_at book n) of ≡ true
-    by None e = rw (state_at-past book n e) at now
-    by (Some batch) e =
-        declared_quiet (state_at book n) batch of (good_state book n legal) (legal.each n batch e) (rw (state_at-next book n batch e) at now) (quiet (renews of batch) refl)
-      where
-        quiet : (b : Bool) → renews of batch ≡ b → renews of batch ≡ false
-        quiet false r = r
-        quiet true r =
-            let higher : version_of (state_at book (suc n)) of ≡ version_of (state_at book n) of + 1 = version_of-next book of n batch legal e ∙ rw r refl in
-            absurd (omega arith)
+    by : (b : Bool) → (version_of book.base of == number) ≡ b → X
+    by true e = base (is_equal (version_of book.base of) number e) (omega (arith, low))
+    by false e = given (place_now book of number legal (is_apart (version_of book.base of) number e (omega (arith, low))) high)
 
--- and so at each place back to the batch that gave it
-pub declared_since : (book : Book) (of : Resource) (d n high : ℕ) → IsLegal book → high ≡ d + n → is_declared (state_at book high) of ≡ true
-    → version_of (state_at book high) of ≡ version_of (state_at book n) of → is_declared (state_at book n) of ≡ true
-declared_since book of zero n high legal e now same =
-    let is : high ≡ n = omega arith in
-    rw is at now
-declared_since book of (suc d) n high legal e now same =
-    let is : high ≡ suc (d + n) = omega arith in
-    let here : is_declared (state_at book (suc (d + n))) of ≡ true = rw is at now in
-    let reached : version_of (state_at book (suc (d + n))) of ≡ version_of (state_at book n) of = rw is at same in
-    let low : version_of (state_at book n) of ≤ version_of (state_at book (d + n)) of = version_of-later book n (d + n) of legal (omega arith) in
-    let high_too : version_of (state_at book (d + n)) of ≤ version_of (state_at book (suc (d + n))) of = version_of-later book (d + n) (suc (d + n)) of legal (omega arith) in
-    declared_since book of d n (d + n) legal refl (declared_before book (d + n) of legal here (omega arith)) (omega arith)
+-- so the version reaches each such number
+pub reached : (book : Book) (of : Resource) (number : ℕ) → IsLegal book → origin_of book of ≤ number → number ≤ version_of (rows_of book) of
+    → IsReached book of number
+reached book of number legal low high =
+    base_or_given book of number legal low high
+    (λ same one. reached_by book of number 0 (batches_to-base book of number same) (omega arith) same (λ m less. absurd (omega (arith, less))))
+    (λ found. reached_given book of number legal found)
+
+-- a lower number was reached no later
+pub reached_in_order : (book : Book) (of : Resource) (i j : ℕ) → IsReached book of i → IsReached book of j → i ≤ j
+    → batches_to book of i ≤ batches_to book of j
+reached_in_order book of i j first last le = by (cases_lt (batches_to book of j) (batches_to book of i))
+  where
+    by : (batches_to book of j < batches_to book of i) ⊎ (batches_to book of i ≤ batches_to book of j) → batches_to book of i ≤ batches_to book of j
+    by (inr h) = h
+    by (inl h) =
+        let below : version_of (state_at book (batches_to book of j)) of < i = first.lowest (batches_to book of j) h in
+        absurd (omega (arith, below, last.version, le))

@@ -2,20 +2,20 @@
 use Rattle.std.proofs.Common.{ℕ, ◌+◌, List, [], ◌∷◌, ◌++◌, Option, Some, None, Result, Ok, Err}
 use Rattle.std.specs.Prelude.{Bool, true, false, IfErr, if◌then◌else◌}
 use Rattle.alto_rows.specs.declared.write.Write.{Write}
-use Rattle.alto_rows.specs.Accepted.{Accepted}
 use Rattle.alto_rows.specs.Order.{same_name}
 use Rattle.alto_rows.specs.Rows.{Rows, after}
-use Rattle.alto_rules.specs.declared.edit.Edit.{Edit}
-use Rattle.alto_rules.specs.declared.rule.Rule.{Rule}
-use Rattle.alto_rules.specs.declared.rule.Past.{Past}
-use Rattle.alto_rules.specs.declared.rule.CompileFault.{CompileFault}
-use Rattle.alto_rules.specs.Compiled.{before, unless_broken, edits_writes, broken_by_size, whole_batch, compiled}
-use Rattle.alto_rules.specs.Rules.{broken_rule, writes_of}
-use Rattle.alto_rules.specs.Versions.{sequence_writes}
+use Rattle.alto_edits.specs.declared.edit.Edit.{Edit}
+use Rattle.alto_edits.specs.declared.rule.Rule.{Rule}
+use Rattle.alto_edits.specs.declared.rule.Past.{Past}
+use Rattle.alto_edits.specs.declared.rule.CompileFault.{CompileFault}
+use Rattle.alto_edits.specs.Compiled.{before, unless_broken, edits_writes, broken_by_batch, whole_batch, compiled}
+use Rattle.alto_edits.specs.Rules.{broken_rule}
+use Rattle.alto_edits.specs.Writes.{writes_of}
+use Rattle.alto_edits.specs.Versions.{sequence_writes}
 use Rattle.alto_book.specs.declared.command.Receipt.{Receipt}
 use Rattle.alto_book.specs.declared.fault.EditFault.TheVariants as fault
 use Rattle.alto_book.specs.Acceptance.{known, past_of, answer_known, accept_new, accept_unless_known, accept}
-use Rattle.alto_book.specs.Book.{rows_of}
+use Rattle.alto_book.specs.Book.{Kept, all_kept, rows_of}
 use Rattle.alto_book.specs.Faults.{edit_fault}
 use Rattle.alto_book.specs.Laws.{IsOfImport, RefusalIsOfTheImport}
 
@@ -41,13 +41,13 @@ compiled_stopped rows edits past = by (edits_writes rows 1 edits) (edits_stopped
   where
     by : (result : Result (List Write) CompileFault) → AreAtFault result → AreAtFault (whole_batch rows past result)
     by (Ok writes) h =
-        stopped 0 [] (broken_by_size past (writes ++ sequence_writes rows writes)) (Ok (writes ++ sequence_writes rows writes)) tt
+        stopped 0 [] (broken_by_batch rows past (writes ++ sequence_writes rows writes)) (Ok (writes ++ sequence_writes rows writes)) tt
     by (Err why) h = h
 
 -- an import is refused for its own fault alone
 pub refused_for_itself : RefusalIsOfTheImport
 unfolding accept
-refused_for_itself book import moment = by (known book.batches import.id)
+refused_for_itself book import moment = by (known (all_kept book) import.id)
   where
     told : (n : ℕ) (receipt : Receipt) (same : Bool) → IfErr (if same then Ok receipt else Err (fault.OtherBody n)) IsOfImport
     told n receipt true = tt
@@ -57,9 +57,9 @@ refused_for_itself book import moment = by (known book.batches import.id)
     made (Ok writes) h = tt
     made (Err why) h = h
 
-    answered : (numbered : ℕ × Accepted) → IfErr (answer_known numbered import) IsOfImport
-    answered (n, batch) = told n (record { n = n; moment = batch.moment }) (same_name batch.digest import.digest)
+    answered : (numbered : ℕ × Kept) → IfErr (answer_known numbered import) IsOfImport
+    answered (n, kept) = told n (record { n = n; moment = kept.moment }) (same_name kept.digest import.digest)
 
-    by : (found : Option (ℕ × Accepted)) → IfErr (accept_unless_known found book import moment).answer IsOfImport
+    by : (found : Option (ℕ × Kept)) → IfErr (accept_unless_known found book import moment).answer IsOfImport
     by (Some numbered) = answered numbered
     by None = made (compiled (rows_of book) import.edits (past_of book)) (compiled_stopped (rows_of book) import.edits (past_of book))

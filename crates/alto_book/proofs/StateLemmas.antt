@@ -1,20 +1,19 @@
--- The rows after each batch of a legal book: they are good, and no version is above the number of batches.
+-- The rows after each batch of a legal book: they are good and within the limits, and no version is above the number of
+-- batches.
 use Rattle.std.proofs.Common.{◌≡◌, refl, ap, arith, suc, zero}
 use Rattle.std.proofs.lemmas.List.{append-nil, append_assoc, take_all}
-use Rattle.std.specs.Prelude.{Bool, true, false, cond, ◌&&◌, ℕ, ◌+◌, ◌≤◌, List, [], ◌∷◌, ◌++◌, length, take, Option, Some, None, slice_get}
+use Rattle.std.specs.Prelude.{ℕ, ◌+◌, ◌≤◌, List, [], ◌∷◌, ◌++◌, length, take, Option, Some, None, slice_get}
 use Rattle.alto_rows.proofs.WriteLemmas.{after-append}
-use Rattle.alto_rows.specs.declared.key.Key.TheVariants as key
 use Rattle.alto_rows.specs.declared.resource.Resource.{Resource}
 use Rattle.alto_rows.specs.Accepted.{Accepted}
 use Rattle.alto_rows.specs.Good.{AreGood}
-use Rattle.alto_rows.specs.Rows.{Rows, AreSorted, value_of, after}
-use Rattle.alto_rows.specs.Versions.{number_in, is_declared, version_of}
-use Rattle.alto_rules.specs.Versions.{is_touched}
-use Rattle.alto_book.specs.Book.{Book, state_at, rows_of, writes_in}
-use Rattle.alto_book.specs.Legal.{Follows, IsLegal}
-use Rattle.alto_book.proofs.BatchLemmas.{HaveNextVersions}
-use Rattle.alto_book.proofs.OpeningLemmas.{good_opens, version_of-opens}
-use Rattle.alto_book.proofs.SequenceLemmas.{next_of, value_of-batch}
+use Rattle.alto_rows.specs.Rows.{after}
+use Rattle.alto_rows.specs.Versions.{version_of}
+use Rattle.alto_edits.specs.Laws.{HaveNextVersions}
+use Rattle.alto_edits.specs.Limits.{AreWithin}
+use Rattle.alto_book.specs.Book.{Book, number_of, state_at, rows_of, writes_in}
+use Rattle.alto_book.specs.Legal.{IsLegal}
+use Rattle.alto_book.proofs.BatchLemmas.{version_of-batch}
 
 -- the writes of one batch more
 writes_in-next : (batches : List Accepted) (n : ℕ) (batch : Accepted) → slice_get batches n ≡ Some batch
@@ -48,7 +47,7 @@ state_at-all book = ap (λ (batches : List Accepted). after book.base (writes_in
 
 -- the rows after each batch of a legal book are good
 pub good_state : (book : Book) (n : ℕ) → IsLegal book → AreGood (state_at book n)
-good_state book zero legal = good_opens book.base legal.base
+good_state book zero legal = legal.base.good
 good_state book (suc n) legal = by (good_state book n legal) (slice_get book.batches n) refl
   where
     by : AreGood (state_at book n) → (o : Option Accepted) → slice_get book.batches n ≡ o → AreGood (state_at book (suc n))
@@ -59,25 +58,28 @@ good_state book (suc n) legal = by (good_state book n legal) (slice_get book.bat
 pub good_rows : (book : Book) → IsLegal book → AreGood (rows_of book)
 good_rows book legal = rw (← state_at-all book) (good_state book (length book.batches) legal)
 
--- a batch keeps a version or raises it by one
-pub version_of-batch : (rows : Rows) (batch : Accepted) (of : Resource) → AreSorted rows → Follows rows batch
-    → (version_of rows of ≤ version_of (after rows batch.writes) of) × (version_of (after rows batch.writes) of ≤ version_of rows of + 1)
-version_of-batch rows batch of s follows =
-    rw (follows.whole, value_of-batch rows follows.edits of s follows.of_edits) (by (is_touched follows.edits of && is_declared (after rows follows.edits) of))
+-- the rows after each batch of a legal book are within the limits
+pub state_within : (book : Book) (n : ℕ) → IsLegal book → AreWithin (state_at book n)
+state_within book zero legal = legal.base.within
+state_within book (suc n) legal = by (state_within book n legal) (slice_get book.batches n) refl
   where
-    by : (b : Bool) → (version_of rows of ≤ number_in (cond b (next_of rows of) (value_of rows (key.Seq of))))
-        × (number_in (cond b (next_of rows of) (value_of rows (key.Seq of))) ≤ version_of rows of + 1)
-    by true = (omega arith, omega arith)
-    by false = (omega arith, omega arith)
+    by : AreWithin (state_at book n) → (o : Option Accepted) → slice_get book.batches n ≡ o → AreWithin (state_at book (suc n))
+    by within None e = rw (state_at-past book n e) within
+    by within (Some batch) e = rw (state_at-next book n batch e) (legal.each n batch e).within
 
--- no version is above the number of batches
-pub version_of-state_at : (book : Book) (n : ℕ) (of : Resource) → IsLegal book → version_of (state_at book n) of ≤ n
+-- the rows of a legal book are within the limits
+pub rows_within : (book : Book) → IsLegal book → AreWithin (rows_of book)
+rows_within book legal = rw (← state_at-all book) (state_within book (length book.batches) legal)
+
+-- no version is above the number of batches that there were
+pub version_of-state_at : (book : Book) (n : ℕ) (of : Resource) → IsLegal book → version_of (state_at book n) of ≤ length book.receipts + n
 version_of-state_at book zero of legal =
-    let none : version_of (state_at book zero) of ≡ 0 = version_of-opens book.base of legal.base in
+    let below : version_of book.base of ≤ length book.receipts = legal.base.versions of in
     omega arith
 version_of-state_at book (suc n) of legal = by (version_of-state_at book n of legal) (slice_get book.batches n) refl
   where
-    by : version_of (state_at book n) of ≤ n → (o : Option Accepted) → slice_get book.batches n ≡ o → version_of (state_at book (suc n)) of ≤ suc n
+    by : version_of (state_at book n) of ≤ length book.receipts + n → (o : Option Accepted) → slice_get book.batches n ≡ o
+        → version_of (state_at book (suc n)) of ≤ length book.receipts + suc n
     by below None e = rw (state_at-past book n e) (omega arith)
     by below (Some batch) e =
         let raised : (version_of (state_at book n) of ≤ version_of (after (state_at book n) batch.writes) of)
@@ -86,14 +88,14 @@ version_of-state_at book (suc n) of legal = by (version_of-state_at book n of le
         rw (state_at-next book n batch e) (omega arith)
 
 -- no version of a legal book is above the number of its batches
-pub version_of-rows_of : (book : Book) (of : Resource) → IsLegal book → version_of (rows_of book) of ≤ length book.batches
+pub version_of-rows_of : (book : Book) (of : Resource) → IsLegal book → version_of (rows_of book) of ≤ number_of book
 version_of-rows_of book of legal = rw (← state_at-all book) (version_of-state_at book (length book.batches) of legal)
 
 -- each version has a next one before each batch of a legal book
 pub next_versions_at : (book : Book) (n : ℕ) → IsLegal book → n ≤ length book.batches → HaveNextVersions (state_at book n)
 next_versions_at book n legal within of =
-    let small : version_of (state_at book n) of ≤ n = version_of-state_at book n of legal in
-    omega arith
+    let small : version_of (state_at book n) of ≤ length book.receipts + n = version_of-state_at book n of legal in
+    omega (arith, legal.small, legal.batches)
 
 -- each version of a legal book has a next one
 pub next_versions : (book : Book) → IsLegal book → HaveNextVersions (rows_of book)

@@ -1,69 +1,87 @@
 -- Bodies stay, and walks lead on.
-use Rattle.std.proofs.Common.{◌≡◌, ℕ, ◌+◌, ◌≤◌, refl, ap, sym, ◌∙◌, arith}
+use Rattle.std.proofs.Common.{◌≡◌, ℕ, ◌≤◌, refl, ap, sym, ◌∙◌, arith}
 use Rattle.std.proofs.lemmas.Bool.Decides.{nat_tests}
 use Rattle.std.specs.Prelude.{Bool, true, false, ◌==◌, List, [], ◌∷◌}
 use Rattle.serde_json.specs.Data.{Data}
 use Rattle.alto_rows.specs.declared.resource.Resource.{Resource}
+use Rattle.alto_rows.specs.Rows.{Rows}
 use Rattle.alto_rows.specs.Versions.{version_of}
-use Rattle.tips_graph.specs.declared.status.EdgeStatus.TheVariants.{Here}
-use Rattle.tips_graph.specs.Edges.{edge_status}
+use Rattle.edge_patch.specs.Differ.{DifferBy}
 use Rattle.edge_patch.specs.Documents.{document, has_document}
 use Rattle.edge_patch.specs.Merge.{merge_form}
 use Rattle.alto_book.specs.Book.{Book, rows_of}
 use Rattle.alto_book.specs.Legal.{IsLegal}
-use Rattle.alto_book.specs.Numbers.{rows_at, keys_between}
+use Rattle.alto_book.specs.NumberLaws.{AreNumbers}
+use Rattle.alto_book.specs.Numbers.{rows_at, keys_between, batches_to, first_kept}
 use Rattle.alto_book.proofs.EarlierLemmas.{earlier_is_legal}
 use Rattle.alto_book.proofs.MapLemmas.{numbers_differ}
-use Rattle.alto_book.proofs.StayLemmas.{rows_at_stay, keys_between_stay, version_of-extended}
+use Rattle.alto_book.proofs.PushLemmas.{between}
+use Rattle.alto_book.proofs.StayLemmas.{rows_at_stay, keys_between_stay}
+use Rattle.alto_book.proofs.TellLemmas.{LeadsOn, leads_on}
 use Rattle.alto_book.specs.WalkLaws.{BodiesStay, WalksLeadOn}
 use Rattle.alto_book.specs.Walks.{document_at, edge_body, Edge, held_after, followed, IsAnswered, IsWalk}
 use Rattle.edge_patch.proofs.StepLemmas.{step_leads_on}
 
--- ---- where an edge that can be had leads
-
-to_a_number : (first last i j : ℕ) → edge_status first last i j ≡ Here → 1 ≤ j
-to_a_number first last i j here = grind (arith, nat_tests)
-
-to_a_kept : (first last i j : ℕ) → edge_status first last i j ≡ Here → j ≤ last
-to_a_kept first last i j here = grind (arith, nat_tests)
-
-one_step : (first last i j : ℕ) → edge_status first last i j ≡ Here → 1 ≤ i → j ≡ i + 1
-one_step first last i j here some = grind (arith, nat_tests)
-
 from_a_number : (i : ℕ) → (i == 0) ≡ false → 1 ≤ i
 from_a_number i not_zero = grind (arith, nat_tests)
 
--- ---- bodies
+-- ---- an edge that was answered
 
--- what a later book makes of an edge that was answered
-same_body : (book : Book) (of : Resource) (edge : Edge) → IsLegal book → (a : IsAnswered book of edge) → edge_body a.look of edge.i edge.j ≡ edge_body book of edge.i edge.j
-same_body book of edge legal a = by (edge.i == 0) refl
+-- what holds of the edge in the book where it was answered, and of the numbers at its ends in a later one
+record Stays (book : Book) (of : Resource) (edge : Edge) (look : Book) : Type 0 where
+  rows : rows_at book of edge.j ≡ rows_at look of edge.j
+  before : 1 ≤ edge.i → rows_at book of edge.i ≡ rows_at look of edge.i
+  keys : 1 ≤ edge.i → keys_between book of edge.i edge.j ≡ keys_between look of edge.i edge.j
+  numbers : 1 ≤ edge.i → AreNumbers look of edge.i edge.j
+
+stays : (book : Book) (of : Resource) (edge : Edge) → IsLegal book → (a : IsAnswered book of edge) → Stays book of edge a.look
+stays book of edge legal a = record {
+  rows = rows_at_stay a.look book of edge.j was_legal legal a.extends (omega (arith, leads.low)) leads.high;
+  before = λ some. rows_at_stay a.look book of edge.i was_legal legal a.extends (omega (arith, leads.from some)) (omega (arith, leads.onward, leads.high));
+  keys = λ some. keys_between_stay a.look book of edge.i edge.j was_legal legal a.extends (omega (arith, leads.from some)) (omega (arith, leads.onward, leads.high)) (omega (arith, leads.low)) leads.high;
+  numbers = λ some. record { legal = was_legal; declared = a.declared; from = omega (arith, leads.from some); rise = omega (arith, leads.onward); upto = leads.high };
+}
   where
     was_legal : IsLegal a.look
     was_legal = earlier_is_legal a.look book legal a.extends
 
-    low : 1 ≤ edge.j
-    low = to_a_number _ _ edge.i edge.j a.here
+    leads : LeadsOn (first_kept a.look of) (version_of (rows_of a.look) of) edge.i edge.j
+    leads = leads_on (first_kept a.look of) (version_of (rows_of a.look) of) edge.i edge.j a.here
 
-    high : edge.j ≤ version_of (rows_of a.look) of
-    high = to_a_kept _ _ edge.i edge.j a.here
-
-    rows : rows_at a.look of edge.j ≡ rows_at book of edge.j
-    rows = sym (rows_at_stay a.look book of edge.j was_legal legal a.extends low high)
-
-    by : (b : Bool) → (edge.i == 0) ≡ b → edge_body a.look of edge.i edge.j ≡ edge_body book of edge.i edge.j
-    by true e = rw e (ap (document of) rows)
-    by false e =
-        let some : 1 ≤ edge.i = from_a_number edge.i e in
-        let onward : edge.j ≡ edge.i + 1 = one_step _ _ edge.i edge.j a.here some in
-        let keys : keys_between a.look of edge.i edge.j ≡ keys_between book of edge.i edge.j =
-        sym (keys_between_stay a.look book of edge.i edge.j was_legal legal a.extends some (omega (arith, onward, high)) low high) in
-        rw e (λ k. merge_form of (rows k) (keys k))
+-- ---- bodies
 
 pub bodies_stay : BodiesStay
-bodies_stay book of edge legal a = a.body ∙ same_body book of edge legal a
+bodies_stay book of edge legal a = a.body ∙ by (edge.i == 0) refl
+  where
+    it : Stays book of edge a.look
+    it = stays book of edge legal a
+
+    by : (b : Bool) → (edge.i == 0) ≡ b → edge_body a.look of edge.i edge.j ≡ edge_body book of edge.i edge.j
+    by true e = rw e (ap (document of) (sym it.rows))
+    by false e =
+        let some : 1 ≤ edge.i = from_a_number edge.i e in
+        rw e
+        (ap (λ (rows : Rows). merge_form of rows (keys_between a.look of edge.i edge.j)) (sym it.rows)
+        ∙ ap (merge_form of (rows_at book of edge.j)) (sym (it.keys some)))
 
 -- ---- walks
+
+-- the rows at the ends of an edge that was answered differ by its keys
+edge_differs : (book : Book) (of : Resource) (edge : Edge) → IsLegal book → (a : IsAnswered book of edge) → 1 ≤ edge.i
+    → DifferBy (keys_between book of edge.i edge.j) (rows_at book of edge.i) (rows_at book of edge.j) of
+edge_differs book of edge legal a some = rw (it.keys some, it.before some, it.rows) differ
+  where
+    it : Stays book of edge a.look
+    it = stays book of edge legal a
+
+    numbers : AreNumbers a.look of edge.i edge.j
+    numbers = it.numbers some
+
+    differ : DifferBy (keys_between a.look of edge.i edge.j) (rows_at a.look of edge.i) (rows_at a.look of edge.j) of
+    differ =
+        let all = between a.look of edge.i edge.j numbers in
+        numbers_differ a.look of edge.i edge.j numbers.legal (omega (arith, numbers.from)) numbers.rise numbers.upto
+        (all.declared (batches_to a.look of edge.i) (omega arith) all.first.within)
 
 -- one edge leads a client that holds the document at its beginning to the document at its end
 edge_leads_on : (book : Book) (of : Resource) (edge : Edge) (held : Data) → IsLegal book → has_document of ≡ true → IsAnswered book of edge
@@ -77,12 +95,8 @@ edge_leads_on book of edge held legal has a start = by (edge.i == 0) refl
     by true e = rw e (body ∙ rw e refl)
     by false e =
         let some : 1 ≤ edge.i = from_a_number edge.i e in
-        let onward : edge.j ≡ edge.i + 1 = one_step _ _ edge.i edge.j a.here some in
-        let kept : edge.j ≤ version_of (rows_of a.look) of = to_a_kept _ _ edge.i edge.j a.here in
-        let risen : version_of (rows_of a.look) of ≤ version_of (rows_of book) of = version_of-extended a.look book of (earlier_is_legal a.look book legal a.extends) legal a.extends in
         rw (e, body, start some)
-        (rw e (step_leads_on of (rows_at book of edge.i) (rows_at book of edge.j) (keys_between book of edge.i edge.j) has
-        (numbers_differ book of edge.i edge.j legal some (omega (arith, onward)) (omega (arith, kept, risen)))))
+        (rw e (step_leads_on of (rows_at book of edge.i) (rows_at book of edge.j) (keys_between book of edge.i edge.j) has (edge_differs book of edge legal a some)))
 
 -- edges in turn
 edges_lead_on : (book : Book) (of : Resource) (from at : ℕ) (edges : List Edge) (held : Data) → IsLegal book → has_document of ≡ true

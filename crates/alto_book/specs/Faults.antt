@@ -1,8 +1,8 @@
 -- Why an import isn't accepted, from why its edits make no batch, and how it is printed.
 use Rattle.std.specs.Prelude.{ℕ, List, ◌++◌, codes, decimal}
-use Rattle.alto_rules.specs.declared.rule.CompileFault.{CompileFault}
-use Rattle.alto_rules.specs.declared.rule.CompileFault.TheVariants as compiling
-use Rattle.alto_rules.specs.Text.{name_of}
+use Rattle.alto_edits.specs.declared.rule.CompileFault.{CompileFault}
+use Rattle.alto_edits.specs.declared.rule.CompileFault.TheVariants as compiling
+use Rattle.alto_edits.specs.Text.{name_of}
 use Rattle.alto_book.specs.declared.fault.EditFault.{EditFault}
 use Rattle.alto_book.specs.declared.fault.EditFault.TheVariants as fault
 

@@ -1,51 +1,56 @@
 -- Which books can come about.
-use Rattle.std.specs.Prelude.{◌≡◌, ℕ, ◌≤◌, true, List, ◌++◌, length, Some, IfSome, All, map, slice_get}
+use Rattle.std.specs.Prelude.{◌≡◌, ℕ, ◌≤◌, ◌<◌, ◌^◌, Bool, true, false, not, List, ◌++◌, length, Some, All, map, filter, slice_get}
 use Rattle.std.specs.List.{IsDistinct}
-use Rattle.alto_names.specs.Name.{IsEpoch}
 use Rattle.alto_rows.specs.declared.key.Key.{Key}
 use Rattle.alto_rows.specs.declared.key.Key.TheVariants as key
 use Rattle.alto_rows.specs.declared.resource.Resource.{Resource}
 use Rattle.alto_rows.specs.declared.write.Write.{Write}
 use Rattle.alto_rows.specs.Accepted.{Accepted}
-use Rattle.alto_rows.specs.Good.{IsKey, Fits, AreGood}
+use Rattle.alto_rows.specs.Good.{AreGood}
 use Rattle.alto_rows.specs.Order.{same_name}
 use Rattle.alto_rows.specs.Rows.{Rows, after}
-use Rattle.alto_rows.specs.Versions.{is_declared}
-use Rattle.alto_rules.specs.Versions.{sequence_writes}
-use Rattle.alto_book.specs.Book.{Book, opening_rows, state_at, writes_in}
+use Rattle.alto_rows.specs.Versions.{version_of}
+use Rattle.alto_edits.specs.Laws.{FitsBatch}
+use Rattle.alto_edits.specs.Limits.{AreWithin}
+use Rattle.alto_edits.specs.Versions.{sequence_writes}
+use Rattle.alto_book.specs.Book.{Kept, Book, all_kept, state_at, writes_in}
 
--- a key that an edit may write: not the epoch, the window or a version, and its names are of their alphabets
-abbrev pub IsOfEdit : Key → Type 0
-IsOfEdit key.Epoch = ⊥
-IsOfEdit key.Window = ⊥
-IsOfEdit (key.Seq of) = ⊥
-IsOfEdit at = IsKey at
+-- the key of a version
+abbrev pub is_version : Key → Bool
+is_version (key.Seq of) = true
+is_version _ = false
 
--- a batch that may follow the rows: writes of edits, whose values fit, and then exactly their version rows; the rows
--- after it are good, and what was declared before it still is
+-- the writes that edits made, of those of a batch: all but the version rows
+abbrev pub edits_in : List Write → List Write
+edits_in writes = filter (λ write. not (is_version write.key)) writes
+
+-- a batch that may follow the rows: each write fits, the version rows are exactly those of the other writes and stand
+-- behind them (B3), the rows after it are good (B4), and they and its writes are within the limits (B5)
 pub record Follows (rows : Rows) (batch : Accepted) : Type 0 where
-  pub edits : List Write
-  pub of_edits : All (λ write. IsOfEdit write.key) edits
-  pub fit : All (λ write. IfSome write.value (Fits write.key)) edits
-  pub whole : batch.writes ≡ edits ++ sequence_writes rows edits
+  pub fit : All FitsBatch batch.writes
+  pub whole : batch.writes ≡ edits_in batch.writes ++ sequence_writes rows (edits_in batch.writes)
   pub good : AreGood (after rows batch.writes)
-  pub stays : (of : Resource) → is_declared rows of ≡ true → is_declared (after rows batch.writes) of ≡ true
+  pub within : AreWithin (after rows batch.writes)
+  pub few : length batch.writes ≤ 16384
 
--- rows with which a book may open: an epoch and a window
-pub record Opens (rows : Rows) : Type 0 where
-  pub epoch : List ℕ
-  pub window : ℕ
-  pub is_epoch : IsEpoch epoch
-  pub at_least : 2 ≤ window
-  pub at_most : window ≤ 32
-  pub whole : rows ≡ opening_rows epoch window
+-- base rows to which so many batches led: they are good and within the limits, and no version is above that number (B6)
+pub record IsBase (rows : Rows) (number : ℕ) : Type 0 where
+  pub good : AreGood rows
+  pub within : AreWithin rows
+  pub versions : (of : Resource) → version_of rows of ≤ number
 
--- a book that accepting imports may have led to
+-- moments that never fall
+abbrev pub NeverFall : List Kept → Type 0
+NeverFall kept = (m n : ℕ) (earlier later : Kept) → m ≤ n → slice_get kept m ≡ Some earlier
+    → slice_get kept n ≡ Some later → earlier.moment ≤ later.moment
+
+-- a book that accepting imports may have led to: a base, batches each of which may follow the rows before it, ids that
+-- are all different (B1, B6), moments that never fall (B2, B6), and no more past the base than may be kept (B5)
 pub record IsLegal (book : Book) : Type 0 where
-  pub base : Opens book.base
+  pub base : IsBase book.base (length book.receipts)
+  pub small : length book.receipts < 2 ^ 62
   pub each : (n : ℕ) (batch : Accepted) → slice_get book.batches n ≡ Some batch → Follows (state_at book n) batch
-  pub ids : IsDistinct same_name (map (λ batch. batch.id) book.batches)
-  pub moments : (m n : ℕ) (earlier later : Accepted) → m ≤ n
-      → slice_get book.batches m ≡ Some earlier → slice_get book.batches n ≡ Some later → earlier.moment ≤ later.moment
+  pub ids : IsDistinct same_name (map (λ kept. kept.id) (all_kept book))
+  pub moments : NeverFall (all_kept book)
   pub batches : length book.batches ≤ 4096
   pub writes : length (writes_in book.batches) ≤ 524288

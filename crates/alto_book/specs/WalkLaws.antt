@@ -13,10 +13,12 @@ EarlierBooksAreLegal = (earlier later : Book) → IsLegal later → Extends late
 
 -- what an edge was answered with is what it holds in every later book
 abbrev pub BodiesStay : Type 0
-BodiesStay = (book : Book) (of : Resource) (edge : Edge) → IsLegal book → IsAnswered book of edge → edge.body ≡ edge_body book of edge.i edge.j
+BodiesStay = (book : Book) (of : Resource) (edge : Edge) → IsLegal book → IsAnswered book of edge
+    → edge.body ≡ edge_body book of edge.i edge.j
 
 -- a walk leads a client that holds the document at its beginning to the document at its end; from 0 it needs none
 abbrev pub WalksLeadOn : Type 0
-WalksLeadOn = (book : Book) (of : Resource) (from at : ℕ) (first : Edge) (edges : List Edge) (held : Data) → IsLegal book → has_document of ≡ true
+WalksLeadOn = (book : Book) (of : Resource) (from at : ℕ) (first : Edge) (edges : List Edge) (held : Data)
+    → IsLegal book → has_document of ≡ true
     → IsWalk book of from (first ∷ edges) at → (1 ≤ from → held ≡ document_at book of from)
     → followed held (first ∷ edges) ≡ document_at book of at

@@ -16,7 +16,8 @@ document_at book of number = document of (rows_at book of number)
 
 -- what an edge holds: from 0 the document at its end, else the merge patch that leads there
 abbrev pub edge_body : Book → Resource → ℕ → ℕ → Data
-edge_body book of i j = if i == 0 then document_at book of j else merge_form of (rows_at book of j) (keys_between book of i j)
+edge_body book of i j =
+    if i == 0 then document_at book of j else merge_form of (rows_at book of j) (keys_between book of i j)
 
 -- an edge with the body that it was answered with
 pub record Edge : Type 0 where

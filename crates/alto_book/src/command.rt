@@ -1,5 +1,5 @@
+use alto_edits::Edit;
 use alto_names::ImportId;
-use alto_rules::Edit;
 use std::marker::Model;
 
 /// An import that asks to be accepted.

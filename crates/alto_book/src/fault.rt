@@ -1,4 +1,4 @@
-use alto_rules::{CompileFault, Rule};
+use alto_edits::{CompileFault, Rule};
 use std::alloc::{AllocError, AllocFailed};
 use std::error::Error;
 use std::fmt;

@@ -1,6 +1,6 @@
 //! What holds of every book, whatever imports come. Each law is the contract of a function that does nothing.
 
-ghost use Rattle.alto_book.specs.Laws.{OpeningIsLegal, AcceptanceKeepsLegal, AcceptanceExtends, BookExtendsItself, ExtendingGoesOn, RefusalChangesNothing, KnownIdChangesNothing, RefusalIsOfTheImport, ReceiptIsKept, LegalRowsAreGood, LegalStatesAreGood, LegalWritesFit, DeletionsAreOfEdits, VersionsStaySmall};
+ghost use Rattle.alto_book.specs.Laws.{OpeningIsLegal, AcceptanceKeepsLegal, AcceptanceExtends, BookExtendsItself, ExtendingGoesOn, RefusalChangesNothing, KnownIdChangesNothing, RefusalIsOfTheImport, ReceiptIsKept, LegalRowsAreGood, LegalStatesAreGood, LegalRowsAreWithin, LegalWritesFit, VersionsStaySmall, TrimKeepsLegal, TrimChangesNothing};
 
 /// A new book is legal.
 pub fn opening_is_legal()
@@ -31,20 +31,26 @@ pub fn receipt_is_kept()
     ensures { ReceiptIsKept }
 {}
 
-/// The rows of a legal book are good, and were after each of its batches.
+/// The rows of a legal book are good, and were after each of its batches. They are within the limits.
 pub fn legal_rows_are_good()
     ensures now { LegalRowsAreGood }
     ensures each { LegalStatesAreGood }
+    ensures within { LegalRowsAreWithin }
 {}
 
-/// Each write of a batch of a legal book has a key that a batch may write, and puts only a value that fits it. None deletes a
-/// version.
+/// Each write of a batch of a legal book has a key that a batch may write, and puts only a value that fits it. None
+/// deletes a version.
 pub fn legal_writes_fit()
-    ensures fit { LegalWritesFit }
-    ensures deletions { DeletionsAreOfEdits }
+    ensures { LegalWritesFit }
 {}
 
 /// No version is above the number of batches.
 pub fn versions_stay_small()
     ensures { VersionsStaySmall }
+{}
+
+/// A legal book whose base moves on stays legal, with the same rows, number and receipts.
+pub fn trim_keeps_the_book()
+    ensures legal { TrimKeepsLegal }
+    ensures same { TrimChangesNothing }
 {}

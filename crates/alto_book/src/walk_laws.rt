@@ -1,4 +1,5 @@
-//! What holds of edges that were answered, and of walks along them. Each law is the contract of a function that does nothing.
+//! What holds of edges that were answered, and of walks along them. Each law is the contract of a function that does
+//! nothing.
 
 ghost use Rattle.alto_book.specs.WalkLaws.{EarlierBooksAreLegal, BodiesStay, WalksLeadOn};
 
@@ -12,8 +13,8 @@ pub fn bodies_stay()
     ensures { BodiesStay }
 {}
 
-/// Whoever holds the document at a walk's beginning, and applies the answers in turn, holds exactly the document at its end, whatever
-/// was accepted between the answers. A walk from 0 begins with nothing.
+/// Whoever holds the document at a walk's beginning, and applies the answers in turn, holds exactly the document at its
+/// end, whatever was accepted between the answers. A walk from 0 begins with nothing.
 pub fn walks_lead_on()
     ensures { WalksLeadOn }
 {}

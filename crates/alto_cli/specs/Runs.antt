@@ -18,7 +18,9 @@ SaysWords status written =
     ((status ≡ 2) × (written ≡ words_fault)) ⊎ ((status ≡ 5) × ((size : ℕ) × (written ≡ take size words_fault)))
 
 -- the console is served from a new book to another, by an office of its own, and the status is that of its end
-pub record Pipes (status : ℕ) (time : Option ℕ) (turns : ℕ) (bytes : List ℕ) (left : Option (List ℕ)) (written : List ℕ) : Type 0 where
+pub record Pipes
+    (status : ℕ) (time : Option ℕ) (turns : ℕ) (bytes : List ℕ) (left : Option (List ℕ)) (written : List ℕ)
+    : Type 0 where
   pub ended : End
   pub book : Book
   pub account : Told

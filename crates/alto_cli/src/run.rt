@@ -27,8 +27,9 @@ const WINDOW: u32 = 8;
 /// of the console failed, 14 where the input ended inside a request, 15 where the console brought as many requests as a
 /// connection may.
 ///
-/// The words are `pipe STORE` or `pipe STORE --turns T`, T being 1 to 10 decimal digits that make 1,000 at most: how often an
-/// awaited edge is waited for, 30 unless given. STORE is read and not used yet: the book starts in memory, and ends with the run.
+/// The words are `pipe STORE` or `pipe STORE --turns T`, T being 1 to 10 decimal digits that make 1,000 at most: how often
+/// an awaited edge is waited for, 30 unless given. STORE is read and not used yet: the book starts in memory, and ends
+/// with the run.
 pub fn run<L: Link, C: Clock>(alloc: Global, words: &[Name], console: &mut L, clock: &C) -> u8
     ensures faulty { result ≡ 2 → turns_of words.now ≡ None }
     ensures said { turns_of words.now ≡ None → Writes (SaysWords result) (L.out console.old) (L.out console.new) }

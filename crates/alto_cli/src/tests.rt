@@ -61,7 +61,18 @@ POST /tips | Content-Type: application/alto-tipsparams+json~ | {"resource-id":"m
 POST /tips | Content-Type: application/json~ | {"resource-id":"metro"} | 415 Unsupported Media Type | json | {"status":415}
 PUT /maps/metro | | | 405 Method Not Allowed | json~Allow: GET | {"status":405}
 GET /tips | | | 405 Method Not Allowed | json~Allow: POST | {"status":405}
-GET /map/metro | | | 404 Not Found | json | {"status":404,"why":"route"}"#;
+GET /map/metro | | | 404 Not Found | json | {"status":404,"why":"route"}
+POST /edits/i4 | Content-Type: text/csv~ | prefix-put,metro,east,192.0.2.0/24,,~ | 200 OK | json | {"moment":100,"n":4}
+GET /tips/metro/ug/3/4 | | | 200 OK | merge-patch+json | {"meta":{"vtag":{"tag":"e1-4"}}}
+GET /tips/metro/ug/2/4 | | | 200 OK | merge-patch+json | {"meta":{"vtag":{"tag":"e1-4"}},"network-map":{"west":{}}}
+POST /edits/i5 | Content-Type: text/csv~ | pid-drop,metro,east,,,~ | 200 OK | json | {"moment":100,"n":5}
+GET /tips/metro/ug/4/5 | | | 200 OK | merge-patch+json | {"meta":{"vtag":{"tag":"e1-5"}},"network-map":{"east":null}}
+POST /edits/i6 | Content-Type: text/csv~ | net-drop,metro,,,,~ | 200 OK | json | {"moment":100,"n":6}
+GET /maps/metro | | | 404 Not Found | json | {"status":404,"why":"resource"}
+GET /tips/metro/ug/0/5 | | | 404 Not Found | json | {"status":404,"why":"resource"}
+POST /edits/i7 | Content-Type: text/csv~ | net-add,metro,,,,~ | 200 OK | json | {"moment":100,"n":7}
+GET /tips/metro/ug/0/6 | | | 200 OK | alto-networkmap+json | {"meta":{"vtag":{"resource-id":"metro","tag":"e1-6"}},"network-map":{}}
+GET /tips/metro/ug/4/6 | | | 410 Gone | json | {"start-seq":6,"status":410}"#;
 
 /// Heads that are refused, each with its status; `~` stands for an end of line.
 const REFUSED_HEADS: &str = "GET /maps/metro HTTP/9.9~~ | 400 Bad Request
@@ -71,13 +82,14 @@ POST /tips HTTP/1.1~Content-Length: 4194305~~ | 413 Content Too Large
 POST /tips HTTP/1.1~Content-Length: +1~~ | 400 Bad Request
 POST /tips HTTP/1.1~Content-Length: 0~Content-Length: 0~~ | 400 Bad Request";
 
-/// Views and steps after thirty-one imports, of which the last eight numbers are kept.
+/// Views and edges after thirty-one imports, of which the last eight numbers are kept.
 const LATER_TALK: &str =
     r#"POST /tips | Host: h~Content-Type: application/alto-tipsparams+json~ | {"resource-id":"metro","tag":"e1-20"} | 200 OK | alto-tips+json | {"tips-view-summary":{"updates-graph-summary":{"end-seq":31,"start-edge-rec":{"seq-i":0,"seq-j":31},"start-seq":24}},"tips-view-uri":"http://h/tips/metro"}
-POST /tips | Host: h~Content-Type: application/alto-tipsparams+json~ | {"resource-id":"metro","tag":"e1-24"} | 200 OK | alto-tips+json | {"tips-view-summary":{"updates-graph-summary":{"end-seq":31,"start-edge-rec":{"seq-i":24,"seq-j":25},"start-seq":24}},"tips-view-uri":"http://h/tips/metro"}
+POST /tips | Host: h~Content-Type: application/alto-tipsparams+json~ | {"resource-id":"metro","tag":"e1-24"} | 200 OK | alto-tips+json | {"tips-view-summary":{"updates-graph-summary":{"end-seq":31,"start-edge-rec":{"seq-i":24,"seq-j":28},"start-seq":24}},"tips-view-uri":"http://h/tips/metro"}
 GET /tips/metro/ug/0/23 | | | 410 Gone | json | {"start-seq":24,"status":410}
 GET /tips/metro/ug/23/24 | | | 410 Gone | json | {"start-seq":24,"status":410}
-GET /tips/metro/ug/24/25 | | | 200 OK | merge-patch+json | {"meta":{"vtag":{"tag":"e1-25"}},"network-map":{"q25":{}}}
+GET /tips/metro/ug/24/28 | | | 200 OK | merge-patch+json | {"meta":{"vtag":{"tag":"e1-28"}},"network-map":{"q25":{},"q26":{},"q27":{},"q28":{}}}
+GET /tips/metro/ug/28/30 | | | 200 OK | merge-patch+json | {"meta":{"vtag":{"tag":"e1-30"}},"network-map":{"q29":{},"q30":{}}}
 GET /tips/metro/ug/30/31 | | | 200 OK | merge-patch+json | {"meta":{"vtag":{"tag":"e1-31"}},"network-map":{"q31":{}}}"#;
 
 /// Paths, each with the place that a client is led to, and the place that the operator is led to.
@@ -190,7 +202,7 @@ fn each_request_has_its_reply(rt: HostRuntime) -> Result<(), Fail> {
 }
 
 #[test]
-fn views_and_steps_behind_thirty_one_imports(rt: HostRuntime) -> Result<(), Fail> {
+fn views_and_edges_behind_thirty_one_imports(rt: HostRuntime) -> Result<(), Fail> {
     let alloc = rt.alloc();
     let mut talk = Talk::new(alloc);
     talk.add_lines(

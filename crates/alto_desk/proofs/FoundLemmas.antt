@@ -4,35 +4,20 @@ use Rattle.std.specs.BTreeMap.{is_at}
 use Rattle.std.specs.List.{list_any}
 use Rattle.std.proofs.lemmas.List.{drop-map}
 use Rattle.std.specs.Ordering.{is_eq}
-use Rattle.std.specs.declared.cmp.Ordering.{Ordering}
-use Rattle.std.specs.declared.cmp.Ordering.TheVariants.{Less, Equal, Greater}
 use Rattle.alto_rows.specs.declared.resource.Resource.{Resource}
-use Rattle.alto_rows.specs.declared.resource.Resource.TheVariants as resource
 use Rattle.alto_rows.specs.Order.{resource_cmp}
-use Rattle.alto_rows.specs.Rows.{Rows}
 use Rattle.alto_rows.specs.Versions.{is_declared, resources_of}
-use Rattle.alto_rows.proofs.OrderLemmas.{resource_cmp_exact}
 use Rattle.alto_rows.proofs.ResourceLemmas.{resources_found}
+use Rattle.alto_rows.proofs.StandsLemmas.{tied_resource}
 use Rattle.tips_graph.specs.Graph.{GraphData}
 use Rattle.alto_book.specs.Book.{Book, rows_of}
 use Rattle.alto_book.specs.Numbers.{updates_graph}
-use Rattle.alto_book.proofs.SameLemmas.{stands-filter}
-use Rattle.alto_desk.proofs.ResourceLemmas.{is_map, maps_followed}
-use Rattle.alto_desk.specs.Front.{followed, graph_in, graphs_of}
-
-equal_tests : (o : Ordering) → is_eq o ≡ true → o ≡ Equal
-equal_tests Less h = cc
-equal_tests Equal h = refl
-equal_tests Greater h = cc
-
--- resources whose comparison says so are one
-one_resource : (a b : Resource) → is_eq (resource_cmp a b) ≡ true → a ≡ b
-one_resource a b h = resource_cmp_exact a b (equal_tests (resource_cmp a b) h)
+use Rattle.alto_desk.specs.Front.{graph_in, graphs_of}
 
 first_or_later : (graph : Resource → GraphData) (one of : Resource) (rest : Bool) (later : Option GraphData) (b : Bool)
     → is_eq (resource_cmp of one) ≡ b → later ≡ (if rest then Some (graph of) else None)
     → (if b then Some (graph one) else later) ≡ (if (b || rest) then Some (graph of) else None)
-first_or_later graph one of rest later true h e = ap (λ (r : Resource). Some (graph r)) (sym (one_resource of one h))
+first_or_later graph one of rest later true h e = ap (λ (r : Resource). Some (graph r)) (sym (tied_resource of one h))
 first_or_later graph one of rest later false h e = e
 
 -- the graph of a resource among those of some resources
@@ -54,14 +39,9 @@ from_place f items graphs of place item same within at =
     drop-map f place items ∙ ap (map f) cut ∙ ap (λ x. f x ∷ map f (drop (place + 1) items)) (sym at) ∙ ap (λ xs. f item ∷ xs) (sym (drop-map f (place + 1) items)) in
     rw same (ap (λ graphs. graph_in graphs of) here)
 
--- the network maps that are followed are those that are declared
-followed_found : (rows : Rows) (net : List ℕ) → list_any (is_at (resource_cmp (resource.Net net))) (followed rows) ≡ is_declared rows (resource.Net net)
-followed_found rows net = rw (← maps_followed rows) (stands-filter is_map (resource.Net net) (resources_of rows) ∙ resources_found rows (resource.Net net))
-
--- the graph of a declared network's map is the book's, and no other network map has one
-pub graph_found : (book : Book) (net : List ℕ)
-    → graph_in (graphs_of book) (resource.Net net)
-    ≡ (if is_declared (rows_of book) (resource.Net net) then Some (updates_graph book (resource.Net net)) else None)
-graph_found book net =
-    found_in (updates_graph book) (followed (rows_of book)) (resource.Net net)
-    ∙ ap (λ b. if b then Some (updates_graph book (resource.Net net)) else None) (followed_found (rows_of book) net)
+-- the graph of a declared resource is the book's, and no other resource has one
+pub graph_found : (book : Book) (of : Resource)
+    → graph_in (graphs_of book) of ≡ (if is_declared (rows_of book) of then Some (updates_graph book of) else None)
+graph_found book of =
+    found_in (updates_graph book) (resources_of (rows_of book)) of
+    ∙ ap (λ b. if b then Some (updates_graph book of) else None) (resources_found (rows_of book) of)

@@ -1,23 +1,24 @@
 -- What a desk keeps, at its start and after a batch.
-use Rattle.std.proofs.Common.{◌≡◌, ℕ, ◌+◌, ◌≤◌, List, [], ◌∷◌, ◌++◌, length, refl, ap, sym, ◌∙◌, length-append}
+use Rattle.std.proofs.Common.{◌≡◌, ℕ, ◌+◌, ◌≤◌, List, [], ◌∷◌, ◌++◌, length, refl, ap, sym, ◌∙◌, length-append, arith}
 use Rattle.alto_names.specs.Name.{IsEpoch}
 use Rattle.alto_rows.specs.Accepted.{Accepted}
 use Rattle.alto_rows.specs.Good.{AreGood}
 use Rattle.alto_rows.specs.Rows.{Rows, after}
 use Rattle.alto_rows.proofs.WriteLemmas.{after-append}
+use Rattle.alto_book.specs.Acceptance.{with_batch}
 use Rattle.alto_book.specs.Book.{Book, opening_rows, rows_of, writes_in}
 use Rattle.alto_book.specs.Legal.{IsLegal}
 use Rattle.alto_book.proofs.GrownLemmas.{writes_in-grown}
 use Rattle.alto_book.proofs.OpeningLemmas.{legal_opening}
 use Rattle.alto_book.proofs.StateLemmas.{good_rows}
-use Rattle.alto_desk.specs.Desk.{Keeps, with_batch}
+use Rattle.alto_desk.specs.Desk.{Keeps, book_kept}
 use Rattle.alto_desk.specs.Front.{Version, StandsFor, graphs_of}
 
 -- a desk without batches whose version has the rows of its base and no graphs
 pub keeps_opening : (epoch : List ℕ) (window : ℕ) (base : Rows) (batches : List Accepted) (version : Version)
     → IsEpoch epoch → 2 ≤ window → window ≤ 32
     → base ≡ opening_rows epoch window → batches ≡ [] → version.n ≡ 0 → version.rows ≡ base → version.graphs ≡ []
-    → Keeps (record { base = base; batches = batches }) 0 version
+    → Keeps (book_kept base batches) 0 version
 keeps_opening epoch window base batches version is low high opened empty zero same none =
     rw (opened, empty)
     (record {
@@ -39,7 +40,7 @@ stands_more book batch old version stands next led graphs =
     let current : version.rows ≡ rows_of (with_batch book batch) =
     led ∙ (ap (λ (rows : Rows). after rows batch.writes) stands.current ∙ rows_of-with_batch book batch) in
     record {
-      number = rw (next, stands.number) (sym (length-append book.batches (batch ∷ [])));
+      number = rw (next, stands.number) (omega (arith, length-append book.batches (batch ∷ [])));
       current = current;
       graphs = graphs current;
     }
@@ -49,7 +50,7 @@ pub keeps_more : (book : Book) (batch : Accepted) (writes len : ℕ) (batches : 
     → Keeps book writes old → IsLegal (with_batch book batch)
     → batches ≡ book.batches ++ batch ∷ [] → len ≡ length batch.writes
     → StandsFor version (with_batch book batch)
-    → Keeps (record { base = book.base; batches = batches }) (writes + len) version
+    → Keeps (record { base = book.base; receipts = book.receipts; batches = batches }) (writes + len) version
 keeps_more book batch writes len batches old version keeps legal more counted stands =
     rw more
     (record {

@@ -1,6 +1,6 @@
 pub mod AcceptLemmas
-pub mod FollowedLemmas
 pub mod FoundLemmas
 pub mod GraphLemmas
 pub mod KeepsLemmas
+pub mod MatchLemmas
 pub mod ResourceLemmas

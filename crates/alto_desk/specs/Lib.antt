@@ -1,3 +1,4 @@
 pub mod Front
 pub mod Graphs
 pub mod Desk
+pub mod Resources

@@ -1,20 +1,20 @@
-ghost use Rattle.std.specs.Prelude.{◌≡◌, ◌≢◌, ◌≤◌, ◌+◌, IfOk, IfErr, Ok, Err, OnOk, OnErr, All, length, option_map};
+ghost use Rattle.std.specs.Prelude.{◌≡◌, ◌≢◌, ◌≤◌, ◌+◌, IfOk, IfErr, Ok, Err, OnOk, OnErr, All, option_map};
 ghost use Rattle.std.specs.Arc.{arc_value};
-ghost use Rattle.alto_rules.specs.Rules.{IsEdit};
-ghost use Rattle.alto_book.specs.Acceptance.{accept, past_of};
+ghost use Rattle.alto_edits.specs.Edits.{IsEdit};
+ghost use Rattle.alto_book.specs.Acceptance.{accept, past_of, with_batch};
 ghost use Rattle.alto_book.specs.Acceptance as spec;
-ghost use Rattle.alto_book.specs.Book.{opening_book, opening_rows, rows_of};
-ghost use Rattle.alto_rules.specs.Compiled.{compiled};
+ghost use Rattle.alto_book.specs.Book.{all_kept, kept_of, number_of, opening_book, opening_rows, rows_of};
+ghost use Rattle.alto_edits.specs.Compiled.{compiled};
 ghost use Rattle.alto_book.specs.Legal.{IsLegal};
-ghost use Rattle.alto_desk.specs.Desk.{with_batch};
 ghost use Rattle.alto_desk.specs.Front.{StandsFor};
 
 use crate::front::Front;
 use crate::known::{answer_known, batch_of, known, last_moment};
 use alto_book::{Command, EditFault, Receipt};
+use alto_edits::{CompileFault, Past};
 use alto_names::Epoch;
 use alto_rows::{Batch, Key, RowStore, Value, Write};
-use alto_rules::{CompileFault, Past, compile};
+use alto_rules::compile;
 use json_tree::Name;
 use std::alloc::{AllocError, Global};
 use std::marker::Model;
@@ -33,13 +33,15 @@ impl<R: RowStore> Model for Desk<R> {
     ghost use Rattle.std.specs.Prelude.{map};
     ghost use Rattle.std.specs.Arc.{arc_value};
     ghost use Rattle.alto_book.specs.Book.{Book};
-    ghost use Rattle.alto_desk.specs.Desk.{Keeps};
+    ghost use Rattle.alto_desk.specs.Desk.{Keeps, book_kept};
 
     ghost Value = { Book };
 
-    ghost view = { λ desk. record { base = R.rows (arc_value desk.base); batches = map arc_value desk.batches.items } };
+    ghost view = { λ desk. book_kept (R.rows (arc_value desk.base)) (map arc_value desk.batches.items) };
 
-    ghost invariant = { λ desk. Keeps (record { base = R.rows (arc_value desk.base); batches = map arc_value desk.batches.items }) desk.writes (arc_value desk.front) };
+    ghost invariant = { λ desk.
+        Keeps (book_kept (R.rows (arc_value desk.base)) (map arc_value desk.batches.items))
+        desk.writes (arc_value desk.front) };
 }
 
 impl<R: RowStore> Desk<R> {
@@ -73,8 +75,8 @@ impl<R: RowStore> Desk<R> {
 
     /// Accepts an import whole, or refuses it and leaves the book as it was. One that is known gets its receipt again.
     ///
-    /// Costs what `compile` and the store's `with` cost, one look at each batch that is kept, and one search for each network,
-    /// whose graphs the next version shares.
+    /// Costs what `compile` and the store's `with` cost, one look at each batch that is kept, and two searches for each
+    /// declared resource, whose graph the next version shares.
     pub fn edit(
         &mut self,
         alloc: Global,
@@ -98,14 +100,15 @@ impl<R: RowStore> Desk<R> {
 
     /// The batch that has the import's id, with its number.
     fn find(&self, command: &Command) -> Option<(u64, &Batch)>
-        ensures { option_map (λ found. (found.0, found.1.now)) result ≡ spec.known self.now.batches command.now.id }
+        ensures { option_map (λ found. (found.0, kept_of found.1.now)) result
+            ≡ spec.known (all_kept self.now) command.now.id }
     {
         known(&self.batches, &command.id)
     }
 
     /// The moment of the last batch, 0 where there is none.
     fn last_moment(&self) -> u64
-        ensures { result ≡ spec.last_moment self.now.batches }
+        ensures { result ≡ spec.last_moment (all_kept self.now) }
     {
         last_moment(&self.batches)
     }
@@ -120,7 +123,8 @@ impl<R: RowStore> Desk<R> {
 
     /// The writes of an import that is new.
     fn compile(&self, alloc: Global, command: &Command) -> Result<Vec<Write>, CompileFault>
-        ensures ok { IfOk result (λ writes. compiled (rows_of self.now) command.now.edits (past_of self.now) ≡ Ok writes.items) }
+        ensures ok { IfOk result (λ writes.
+            compiled (rows_of self.now) command.now.edits (past_of self.now) ≡ Ok writes.items) }
         ensures err { IfErr result (λ fault. fault ≢ CompileFault.Memory
             → compiled (rows_of self.now) command.now.edits (past_of self.now) ≡ Err fault) }
         ensures legal { IsLegal self.now }
@@ -141,7 +145,8 @@ impl<R: RowStore> Desk<R> {
     /// Adds a batch to the book, and makes the version after it.
     fn append(&mut self, alloc: Global, batch: Batch) -> Result<Receipt, AllocError>
         requires { IsLegal (with_batch self.old batch) }
-        ensures receipt { IfOk result (λ receipt. receipt ≡ record { n = length self.old.batches + 1; moment = batch.moment }) }
+        ensures receipt { IfOk result (λ receipt.
+            receipt ≡ record { n = number_of self.old + 1; moment = batch.moment }) }
         ensures ok { OnOk result (self.new ≡ with_batch self.old batch) }
         ensures err { OnErr result (self.new ≡ self.old) }
     {

@@ -3,7 +3,7 @@ ghost use Rattle.alto_rows.specs.Good.{AreGood};
 ghost use Rattle.alto_rows.specs.Rows.{after};
 ghost use Rattle.alto_book.specs.Book.{Book};
 ghost use Rattle.alto_book.specs.Legal.{IsLegal};
-ghost use Rattle.alto_desk.specs.Desk.{with_batch};
+ghost use Rattle.alto_book.specs.Acceptance.{with_batch};
 ghost use Rattle.alto_desk.specs.Front.{StandsFor, graph_in};
 
 use crate::graphs::{graphs_after, is_same};
@@ -21,7 +21,7 @@ pub struct Front<R: RowStore> {
     pub n: u64,
     /// The rows.
     pub rows: Arc<R>,
-    /// The updates graph of each network map that is declared, in the order of their keys.
+    /// The updates graph of each declared resource, in the order of resources.
     pub graphs: Vec<(Resource, Arc<Graph<R>>)>,
 }
 
@@ -32,7 +32,8 @@ impl<R: RowStore> Model for Front<R> {
 
     ghost Value = { Version };
 
-    ghost view = { λ front. record { n = front.n; rows = R.rows (arc_value front.rows); graphs = entries front.graphs.items } };
+    ghost view = { λ front.
+        record { n = front.n; rows = R.rows (arc_value front.rows); graphs = entries front.graphs.items } };
 }
 
 impl<R: RowStore> Front<R> {

@@ -1,29 +1,32 @@
 //! The updates graphs of a version, made from those of the version before. All that a batch left is shared.
-ghost use Rattle.std.specs.Prelude.{◌≡◌, ◌≤◌, IfOk};
+ghost use Rattle.std.specs.Prelude.{◌≡◌, ◌≤◌, ◌<◌, ◌^◌, ◌-◌, IfOk, option_map};
 ghost use Rattle.std.specs.Arc.{arc_value};
 ghost use Rattle.std.specs.BTreeMap.{is_at};
+ghost use Rattle.std.specs.Ordering.{is_lt};
 ghost use Rattle.alto_rows.specs.Good.{AreGood};
 ghost use Rattle.alto_rows.specs.Order.{resource_cmp};
-ghost use Rattle.alto_rows.specs.Rows.{AreSorted};
 ghost use Rattle.alto_rows.specs.Versions.{version_of, window_of};
 ghost use Rattle.alto_rows.specs.Accepted.{Accepted};
+ghost use Rattle.alto_book.specs.Acceptance.{with_batch};
 ghost use Rattle.alto_book.specs.Book.{Book, rows_of};
 ghost use Rattle.alto_book.specs.Legal.{IsLegal};
 ghost use Rattle.alto_book.specs.Numbers as spec;
-ghost use Rattle.alto_desk.specs.Desk.{with_batch};
-ghost use Rattle.alto_desk.specs.Front.{followed, graphs_of};
-ghost use Rattle.alto_desk.specs.Graphs.{entries, leading_graph, graphs_behind};
-ghost use Rattle.alto_desk.specs.Graphs as graphs;
+ghost use Rattle.alto_desk.specs.Front.{graphs_of};
+ghost use Rattle.alto_desk.specs.Graphs.{entries, push_after};
+ghost use Rattle.tips_graph.specs.Graph.{with_push};
+ghost use Rattle.alto_desk.specs.Graphs as desk;
 
-use alto_rows::{Key, Resource, RowStore, Span, Value, Write, rows_in, touches};
+use crate::resources::resources_of;
+use alto_rows::{Key, Resource, RowStore, Value, Write, touches};
 use std::alloc::{AllocError, Global};
 use std::sync::Arc;
 use tips_graph::Graph;
 
-/// The updates graphs after a batch with these writes, which led to these rows. They share the graphs of all that the batch
-/// gave no number, and the rows.
+/// The updates graphs after a batch with these writes, which led to these rows. They share the rows, and the graphs of all
+/// that the batch gave no number.
 ///
-/// Costs a walk over the rows of the networks, a search for each, and a look at each write for each that was touched.
+/// Costs a walk over the rows of the networks and metrics, one over the graphs, a search for each declared resource, and
+/// a look at each write for each that has a new number.
 pub(crate) fn graphs_after<R: RowStore>(
     alloc: Global,
     graphs: &[(Resource, Arc<Graph<R>>)],
@@ -35,47 +38,45 @@ pub(crate) fn graphs_after<R: RowStore>(
         → R.rows (arc_value rows.now) ≡ rows_of (with_batch book batch) → writes.now ≡ batch.writes
         → entries graphs.now ≡ graphs_of book → entries after.items ≡ graphs_of (with_batch book batch)) }
 {
-    let none = Arc::new(alloc, Graph::empty(alloc, window(&**rows))?)?;
     let mut left = graphs;
     let mut after = Vec::new(alloc);
-    for of in followed(alloc, &**rows)? {
-        let (graph, rest) = split_graph(left, &of, &none);
-        let graph = graph_after(alloc, graph, &of, rows, writes)?;
-        left = rest;
+    for of in resources_of(alloc, &**rows)? {
+        left = graphs_from(left, &of);
+        let graph = graph_after(alloc, leading_graph(left, &of), &of, rows, writes)?;
         after.push((of, graph))?;
     }
     Ok(after)
 }
 
-/// The resources that are followed at these rows. One walk over the rows of the networks.
-fn followed<R: RowStore>(alloc: Global, rows: &R) -> Result<Vec<Resource>, AllocError>
-    ensures { IfOk result (λ resources. resources.items ≡ followed (R.rows rows.now)) }
-{
-    let mut resources = Vec::new(alloc);
-    for row in rows_in(rows, Span::Nets) {
-        if let Key::Net(net) = &row.0 {
-            resources.push(Resource::Net(net.clone()?))?;
-        }
-    }
-    Ok(resources)
-}
-
-/// The graph of a resource, where these begin with it, and else another; and the graphs behind it.
-fn split_graph<'a, R: RowStore>(
+/// Graphs from the first that isn't of a resource before this one. Linear in the number of those before.
+fn graphs_from<'a, R: RowStore>(
     graphs: &'a [(Resource, Arc<Graph<R>>)],
     of: &Resource,
-    other: &'a Arc<Graph<R>>,
-) -> (&'a Arc<Graph<R>>, &'a [(Resource, Arc<Graph<R>>)])
-    ensures graph { arc_value result.0.now ≡ leading_graph (arc_value other.now) (entries graphs.now) of.now }
-    ensures rest { entries result.1.now ≡ graphs_behind (entries graphs.now) of.now }
+) -> &'a [(Resource, Arc<Graph<R>>)]
+    ensures { entries result.now ≡ desk.graphs_from (entries graphs.now) of.now }
 {
-    let Some((first, rest)) = graphs.split_first() else {
-        return (other, graphs);
-    };
+    let mut left = graphs;
+    while let Some((first, rest)) = left.split_first() {
+        if !is_before(&first.0, of) {
+            return left;
+        }
+        left = rest;
+    }
+    left
+}
+
+/// The graph of a resource, where these begin with it.
+fn leading_graph<'a, R: RowStore>(
+    graphs: &'a [(Resource, Arc<Graph<R>>)],
+    of: &Resource,
+) -> Option<&'a Arc<Graph<R>>>
+    ensures { option_map (λ graph. arc_value graph.now) result ≡ desk.leading_graph (entries graphs.now) of.now }
+{
+    let (first, _) = graphs.split_first()?;
     if is_same(of, &first.0) {
-        (&first.1, rest)
+        Some(&first.1)
     } else {
-        (other, graphs)
+        None
     }
 }
 
@@ -86,28 +87,59 @@ pub(crate) fn is_same(of: &Resource, other: &Resource) -> bool
     of.cmp(other).is_eq()
 }
 
-/// The graph of a resource after a batch with these writes, which led to these rows: the same where it has no new version.
+/// Whether a resource is before another.
+fn is_before(of: &Resource, other: &Resource) -> bool
+    ensures { result ≡ is_lt (resource_cmp of.now other.now) }
+{
+    of.cmp(other).is_lt()
+}
+
+/// The graph of a resource after a batch with these writes, which led to these rows: the same where it has no new
+/// version, and begun with its version where it had none.
 fn graph_after<R: RowStore>(
     alloc: Global,
-    graph: &Arc<Graph<R>>,
+    graph: Option<&Arc<Graph<R>>>,
     of: &Resource,
     rows: &Arc<R>,
     writes: &[Write],
 ) -> Result<Arc<Graph<R>>, AllocError>
     requires { AreGood (R.rows (arc_value rows.now)) }
     ensures { IfOk result (λ after. arc_value after
-        ≡ graphs.graph_after (arc_value graph.now) of.now (R.rows (arc_value rows.now)) writes.now) }
+        ≡ desk.graph_after (option_map (λ graph. arc_value graph.now) graph.entry)
+        of.now (R.rows (arc_value rows.now)) writes.now) }
 {
-    if graph.last() < version(&**rows, of.clone()?) {
-        let keys = touching(alloc, of, writes)?;
-        return Ok(Arc::new(alloc, graph.push(alloc, rows, &keys)?)?);
+    let version = version(&**rows, of.clone()?);
+    let Some(graph) = graph else {
+        let begun = Graph::resume(alloc, window(&**rows), version.saturating_sub(1))?;
+        return pushed(alloc, &begun, of, rows, writes);
+    };
+    if graph.reached() < version {
+        return pushed(alloc, graph, of, rows, writes);
     }
     Arc::try_clone(graph)
 }
 
+/// The graph of a resource with one number more, which these writes made.
+fn pushed<R: RowStore>(
+    alloc: Global,
+    graph: &Graph<R>,
+    of: &Resource,
+    rows: &Arc<R>,
+    writes: &[Write],
+) -> Result<Arc<Graph<R>>, AllocError>
+    requires { graph.now.last < 2 ^ 63 - 1 }
+    ensures { IfOk result (λ after. arc_value after
+        ≡ with_push graph.now (push_after of.now (R.rows (arc_value rows.now)) writes.now)) }
+{
+    let keys = touching(alloc, of, writes)?;
+    Ok(Arc::new(alloc, graph.push(alloc, rows, &keys)?)?)
+}
+
 /// The version that a resource has reached. One search.
 fn version<R: RowStore>(rows: &R, of: Resource) -> u64
-    ensures { result ≡ version_of (R.rows rows.now) of }
+    requires { AreGood (R.rows rows.now) }
+    ensures number { result ≡ version_of (R.rows rows.now) of }
+    ensures room { result < 2 ^ 63 }
 {
     match rows.get(&Key::Seq(of)) {
         Some(Value::Num(n)) => *n,

@@ -2,6 +2,7 @@
 ghost use Rattle.std.specs.Prelude.{◌≡◌, map, option_map};
 ghost use Rattle.std.specs.Arc.{arc_value};
 ghost use Rattle.alto_book.specs.Acceptance as book;
+ghost use Rattle.alto_book.specs.Book.{kept_of};
 
 use alto_book::{Command, EditFault, Receipt};
 use alto_names::ImportId;
@@ -10,8 +11,8 @@ use std::sync::Arc;
 
 /// The batch of an id, with its number from 1. It looks at each batch once, and takes no memory.
 pub(crate) fn known<'a>(batches: &'a [Arc<Batch>], id: &ImportId) -> Option<(u64, &'a Batch)>
-    ensures { option_map (λ found. (found.0, found.1.now)) result
-        ≡ book.known (map arc_value batches.now) id.now }
+    ensures { option_map (λ found. (found.0, kept_of found.1.now)) result
+        ≡ book.known (map kept_of (map arc_value batches.now)) id.now }
 {
     for (before, batch) in batches.iter().enumerate() {
         if batch.id == *id {
@@ -23,7 +24,7 @@ pub(crate) fn known<'a>(batches: &'a [Arc<Batch>], id: &ImportId) -> Option<(u64
 
 /// What an import is answered whose id has a batch: its receipt, where the bodies have one digest.
 pub(crate) fn answer_known(n: u64, batch: &Batch, command: &Command) -> Result<Receipt, EditFault>
-    ensures { result ≡ book.answer_known (n, batch.now) command.now }
+    ensures { result ≡ book.answer_known (n, kept_of batch.now) command.now }
 {
     if batch.digest == command.digest {
         Ok(Receipt {
@@ -37,7 +38,7 @@ pub(crate) fn answer_known(n: u64, batch: &Batch, command: &Command) -> Result<R
 
 /// The moment of the last batch, 0 where there is none.
 pub(crate) fn last_moment(batches: &[Arc<Batch>]) -> u64
-    ensures { result ≡ book.last_moment (map arc_value batches.now) }
+    ensures { result ≡ book.last_moment (map kept_of (map arc_value batches.now)) }
 {
     batches.last().map_or(0, |batch| batch.moment)
 }

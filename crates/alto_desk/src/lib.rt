@@ -11,6 +11,7 @@ mod desk;
 mod front;
 mod graphs;
 mod known;
+mod resources;
 
 pub use alto_book::{Command, EditFault, Receipt};
 pub use desk::Desk;

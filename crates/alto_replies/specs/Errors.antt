@@ -21,7 +21,8 @@ told name (Some text) = (name, string text) ∷ []
 
 -- what an error tells: its code, and the field and the value that are at fault, where there are some
 abbrev pub error_meta : AskCode → Option (List ℕ) → Option (List ℕ) → Data
-error_meta code field value = object_of ((codes "code", string (code_text code)) ∷ (told (codes "field") field ++ told (codes "value") value))
+error_meta code field value =
+    object_of ((codes "code", string (code_text code)) ∷ (told (codes "field") field ++ told (codes "value") value))
 
 -- the reply that tells an error
 abbrev pub alto_error : AskCode → Option (List ℕ) → Option (List ℕ) → ReplyData
@@ -32,7 +33,7 @@ alto_error code field value = record {
   body = compact_text (object_of ((codes "meta", error_meta code field value) ∷ []));
 }
 
--- what an ask is answered whose body is at fault; want of memory has no reply of its own
+-- what an ask is answered whose body is at fault; out of memory has no reply of its own
 abbrev pub ask_error : AskFault → ReplyData
 ask_error (fault.Bad code field value) = alto_error code field value
 ask_error fault.Memory = status_alone 503

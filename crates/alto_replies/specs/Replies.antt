@@ -4,7 +4,7 @@ use Rattle.serde_json.specs.Data.{Data, number, unsigned, string}
 use Rattle.serde_json.specs.Written.{compact_text}
 use Rattle.json_tree.specs.Document.{object_of}
 use Rattle.alto_http.specs.declared.request.Verb.{Verb}
-use Rattle.alto_rules.specs.Text.{name_of}
+use Rattle.alto_edits.specs.Text.{name_of}
 use Rattle.alto_book.specs.declared.command.Receipt.{Receipt}
 use Rattle.alto_book.specs.declared.fault.EditFault.{EditFault}
 use Rattle.alto_book.specs.declared.fault.EditFault.TheVariants as fault
@@ -24,11 +24,21 @@ whole n = number (unsigned n)
 
 -- a reply with a document
 abbrev pub document_reply : List ℕ → Data → ReplyData
-document_reply media_type document = record { status = 200; content_type = media_type; allow = None; body = compact_text document }
+document_reply media_type document = record {
+  status = 200;
+  content_type = media_type;
+  allow = None;
+  body = compact_text document;
+}
 
 -- a refusal with an object of JSON
 abbrev pub refusal : ℕ → List (List ℕ × Data) → ReplyData
-refusal status members = record { status = status; content_type = json_type; allow = None; body = compact_text (object_of members) }
+refusal status members = record {
+  status = status;
+  content_type = json_type;
+  allow = None;
+  body = compact_text (object_of members);
+}
 
 -- a refusal that tells its status alone
 abbrev pub status_alone : ℕ → ReplyData
@@ -44,9 +54,10 @@ wrong_method allowed = record (status_alone 405) { allow = Some allowed }
 
 -- the body of an import doesn't read: at this row and column, 0 for a number that the fault doesn't have
 abbrev pub bad_form : ℕ → ℕ → ReplyData
-bad_form row column = refusal 400 ((codes "column", whole column) ∷ (codes "row", whole row) ∷ (codes "status", whole 400) ∷ [])
+bad_form row column =
+    refusal 400 ((codes "column", whole column) ∷ (codes "row", whole row) ∷ (codes "status", whole 400) ∷ [])
 
--- why the body of an import doesn't read; want of memory has no reply of its own
+-- why the body of an import doesn't read; out of memory has no reply of its own
 abbrev pub form_reply : FormFault → ReplyData
 form_reply form.Syntax = bad_form 0 0
 form_reply form.Empty = bad_form 0 0
@@ -67,7 +78,7 @@ abbrev pub receipt_reply : Receipt → ReplyData
 receipt_reply receipt =
     document_reply json_type (object_of ((codes "moment", whole receipt.moment) ∷ (codes "n", whole receipt.n) ∷ []))
 
--- an import that isn't accepted, or whose batch couldn't be kept; want of memory has no reply of its own
+-- an import that isn't accepted, or whose batch couldn't be kept; out of memory has no reply of its own
 abbrev pub fault_reply : EditFault → ReplyData
 fault_reply (fault.OtherBody n) = refusal 409 ((codes "n", whole n) ∷ (codes "status", whole 409) ∷ [])
 fault_reply (fault.Broken row broken) =

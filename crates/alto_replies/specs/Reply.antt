@@ -1,4 +1,4 @@
--- A reply and its bytes (RFC 9112, sections 4 to 6; phrases of RFC 9110, section 15, but 425 of RFC 8470 and 431 of RFC 6585).
+-- A reply and its bytes (RFC 9112, sections 4 to 6; phrases of RFC 9110, section 15, 425 of RFC 8470, 431 of RFC 6585).
 use Rattle.std.specs.Prelude.{◌≡◌, ◌≢◌, ℕ, Bool, true, false, List, [], ◌∷◌, ◌++◌, length, Option, Some, None, is_some, unwrap_or, codes, decimal, ◌==◌}
 use Rattle.std.specs.Map.{lookup}
 use Rattle.httparse.specs.Ascii.{crlf_bytes}
@@ -87,7 +87,10 @@ pub record IsReply (reply : ReplyData) : Type 0 where
   pub names_method : reply.allow ≢ Some verb.Other
   pub with_405 : is_some reply.allow ≡ (reply.status == 405)
 
--- the bytes that answer want of memory, written without taking any
+-- the bytes that answer where the server is out of memory, written without taking any
 abbrev pub memory_reply : List ℕ
 memory_reply =
-    line (codes "HTTP/1.1 500 Internal Server Error") ++ line (codes "Content-Length: 0") ++ line (codes "Connection: close") ++ line []
+    line (codes "HTTP/1.1 500 Internal Server Error")
+    ++ line (codes "Content-Length: 0")
+    ++ line (codes "Connection: close")
+    ++ line []

@@ -1,4 +1,5 @@
-//! Replies and their bytes (RFC 9112): documents, receipts, refusals by status, and the errors of ALTO (RFC 7285, section 8.5).
+//! Replies and their bytes (RFC 9112): documents, receipts, refusals by status, and the errors of ALTO (RFC 7285,
+//! section 8.5).
 //!
 //! ```text
 //! HTTP/1.1 404 Not Found

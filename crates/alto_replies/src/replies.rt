@@ -12,8 +12,8 @@ ghost use Rattle.alto_replies.specs.Replies.{json_type, whole, document_reply, s
 
 use crate::reply::Reply;
 use alto_book::{EditFault, Receipt};
+use alto_edits::Rule;
 use alto_http::{HeadFault, Verb};
-use alto_rules::Rule;
 use edit_forms::FormFault;
 use json_tree::{Members, Name, Tree, text};
 use std::alloc::{AllocError, Global};

@@ -1,2 +1,12 @@
-pub mod DraftLemmas
+pub mod Orders
+pub mod IndexLemmas
+pub mod SizeLemmas
+pub mod OwnerLemmas
+pub mod PickLemmas
+pub mod TakeLemmas
+pub mod CheckLemmas
+pub mod KeptLemmas
+pub mod WithdrawLemmas
+pub mod VersionLemmas
 pub mod CompileLemmas
+pub mod DraftedLemmas

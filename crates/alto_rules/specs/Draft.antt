@@ -1,25 +1,71 @@
--- What a draft of a batch keeps beside its writes, so that no question to it goes over them.
-use Rattle.std.specs.Prelude.{◌≡◌, ℕ, ◌&&◌, ◌||◌, Bool, List, [], ◌∷◌}
-use Rattle.std.specs.BTreeMap.{BTreeMap, get, is_at}
+-- A draft of a batch: the rows that it is made for and the writes so far.
+use Rattle.std.specs.Prelude.{◌≡◌, ℕ, Bool, true, false, ◌&&◌, ◌||◌, not, List, [], ◌∷◌, ◌++◌, map, None, Option, Some}
+use Rattle.std.specs.List.{AllByRecursion, filter_map, list_any}
+use Rattle.std.specs.BTreeMap.{is_at}
 use Rattle.std.specs.BTreeSet.{BTreeSet, contains}
-use Rattle.std.specs.List.{filter_map, list_any}
-use Rattle.std.specs.Option.{unwrap_or}
+use Rattle.alto_addr.specs.declared.prefix.Prefix.{Prefix}
 use Rattle.alto_rows.specs.declared.key.Key.{Key}
+use Rattle.alto_rows.specs.declared.key.Key.TheVariants as key
 use Rattle.alto_rows.specs.declared.resource.Resource.{Resource}
 use Rattle.alto_rows.specs.declared.resource.Resource.TheVariants as resource
 use Rattle.alto_rows.specs.declared.span.Span.TheVariants as span
+use Rattle.alto_rows.specs.declared.value.Value.{Value}
 use Rattle.alto_rows.specs.declared.write.Write.{Write}
-use Rattle.alto_rows.specs.Order.{key_cmp, resource_cmp}
+use Rattle.alto_rows.specs.Order.{resource_cmp, same_name}
 use Rattle.alto_rows.specs.Rows.{Rows, AreSorted, has_row, after}
 use Rattle.alto_rows.specs.Span.{rows_in}
+use Rattle.alto_rows.specs.Touches.{versions_map}
 use Rattle.alto_rows.specs.Versions.{cost_declared, is_declared}
-use Rattle.alto_rules.specs.Versions.{is_written, is_touched}
+use Rattle.alto_edits.specs.Versions.{is_touched}
 
--- the map tells which written keys have a row after the writes, and the set has the resources that these are part of
-pub record IsIndexed (writes : List Write) (written : BTreeMap Key Bool) (parts : BTreeSet Resource) : Type 0 where
-  pub rows : (rows : Rows) (at : Key) → AreSorted rows
-      → has_row (after rows writes) at ≡ unwrap_or (get key_cmp written at) (has_row rows at)
-  pub resources : (of : Resource) → contains resource_cmp parts of ≡ is_written writes of
+-- the rows before the batch, and the writes so far
+pub record Drafted : Type 0 where
+  pub rows : Rows
+  pub writes : List Write
+
+-- the rows after the writes
+abbrev pub drafted_rows : Drafted → Rows
+drafted_rows draft = after draft.rows draft.writes
+
+-- a draft without writes
+abbrev pub opened : Rows → Drafted
+opened rows = record { rows = rows; writes = [] }
+
+-- a draft with more writes
+abbrev pub wrote : Drafted → List Write → Drafted
+wrote draft more = record { rows = draft.rows; writes = draft.writes ++ more }
+
+-- a prefix is in one PID of a network at most
+abbrev pub HaveOneOwner : Rows → Type 0
+HaveOneOwner rows = (net first second : List ℕ) (prefix : Prefix) → has_row rows (key.Prefix net first prefix) ≡ true
+    → has_row rows (key.Prefix net second prefix) ≡ true → first ≡ second
+
+-- where a key gives a prefix to a PID, no other PID has it
+abbrev pub GivesAlone : Rows → Key → Type 0
+GivesAlone rows at = (net pid other : List ℕ) (prefix : Prefix) → at ≡ key.Prefix net pid prefix
+    → has_row rows (key.Prefix net other prefix) ≡ true → other ≡ pid
+
+-- a key gives no prefix to a PID
+abbrev pub gives_none : Key → Bool
+gives_none (key.Prefix net pid prefix) = false
+gives_none _ = true
+
+-- no write is of a version
+abbrev pub HaveNoVersions : List Write → Type 0
+HaveNoVersions writes = AllByRecursion (λ write. versions_map write.key ≡ None) writes
+
+-- an optional owner is this PID
+abbrev pub is_owner : Option (List ℕ) → List ℕ → Bool
+is_owner None pid = false
+is_owner (Some owner) pid = same_name owner pid
+
+-- this PID has a prefix of a network, and no other
+abbrev pub HasOwner : Rows → List ℕ → Prefix → Option (List ℕ) → Type 0
+HasOwner rows net prefix owner = (pid : List ℕ) → has_row rows (key.Prefix net pid prefix) ≡ is_owner owner pid
+
+-- a write
+abbrev pub writing : Key → Option Value → Write
+writing at v = record { key = at; value = v }
 
 -- the cost maps of a network that the rows declare
 abbrev pub costs_of : Rows → List ℕ → List Resource

@@ -1,5 +1,7 @@
-pub mod Rules
-pub mod Versions
-pub mod Compiled
+pub mod Parts
 pub mod Draft
-pub mod Text
+pub mod Index
+pub mod Sizes
+pub mod Owners
+pub mod Kept
+pub mod Withdrawal

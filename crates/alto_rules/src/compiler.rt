@@ -1,15 +1,20 @@
-ghost use Rattle.std.specs.Prelude.{◌≡◌, ◌≢◌, ◌+◌, ◌-◌, ◌^◌, ◌<◌, Ok, Err, IfOk, IfErr};
-ghost use Rattle.alto_rows.specs.declared.resource.Resource.{Resource};
+ghost use Rattle.std.specs.Prelude.{◌≡◌, ◌≢◌, Ok, Err, IfOk, IfErr};
 ghost use Rattle.alto_rows.specs.Good.{AreGood};
 ghost use Rattle.alto_rows.specs.Rows.{AreSorted};
-ghost use Rattle.alto_rows.specs.Versions.{version_of};
-ghost use Rattle.alto_rules.specs.Compiled.{broken_by_size, compiled, edits_writes};
+ghost use Rattle.alto_edits.specs.Compiled.{broken_by_batch, compiled, edits_writes};
+ghost use Rattle.alto_edits.specs.Laws.{HaveNextVersions};
+ghost use Rattle.alto_rules.specs.Draft.{HaveOneOwner};
 
 use crate::draft::Draft;
-use crate::edit::Edit;
-use crate::rule::{CompileFault, Past, Rule};
+use alto_edits::{CompileFault, Edit, Past, Rule};
 use alto_rows::{RowStore, Write};
-use std::alloc::Global;
+use std::alloc::{AllocError, Global};
+
+/// How many rows there may be after a batch.
+const MOST_ROWS: usize = 400_000;
+
+/// How many writes a batch may have.
+const MOST_BATCH_WRITES: usize = 16_384;
 
 /// How many batches may be kept past a book's base.
 const MOST_BATCHES: u32 = 4_096;
@@ -20,8 +25,9 @@ const MOST_WRITES: usize = 524_288;
 /// The writes of a batch: those of its edits, each made in the rows after those before it, and then the version rows
 /// of what they touch. `past` is what is kept before the batch.
 ///
-/// Fails with the first rule that is broken, edit by edit, and of the batch as a whole after all edits. Costs
-/// O((e + m) log(r + e)) for e edits on r rows, m of which declare metrics of the networks that the edits touch.
+/// Fails with the first rule that is broken, edit by edit, and of the batch as a whole after all edits. Costs some
+/// searches for each write. A withdrawal also walks the spans that can name what it withdraws and the keys written so
+/// far; the first `prefix-put` in a network walks the network's prefixes, and the version of a network's map its metrics.
 pub fn compile<R: RowStore>(
     alloc: Global,
     rows: &R,
@@ -29,27 +35,34 @@ pub fn compile<R: RowStore>(
     past: Past,
 ) -> Result<Vec<Write>, CompileFault>
     requires good { AreGood (R.rows rows.now) }
-    requires room { (of : Resource) → version_of (R.rows rows.now) of < 2 ^ 63 - 1 }
+    requires room { HaveNextVersions (R.rows rows.now) }
 
     ensures ok { IfOk result (λ writes. compiled (R.rows rows.now) edits.now past ≡ Ok writes.items) }
     ensures err { IfErr result (λ fault. fault ≢ CompileFault.Memory → compiled (R.rows rows.now) edits.now past ≡ Err fault) }
 {
-    let writes = drafted(alloc, rows, edits)?.into_batch(rows)?;
-    match broken_by_size(past, &writes) {
+    let draft = drafted(alloc, rows, edits)?.versioned()?;
+    match draft.broken_by_batch(past) {
         Some(rule) => Err(CompileFault::Broken { row: 0, rule }),
-        None => Ok(writes),
+        None => Ok(draft.into_writes()),
     }
 }
 
-/// The writes of the edits alone.
-fn drafted<R: RowStore>(alloc: Global, rows: &R, edits: &[Edit]) -> Result<Draft, CompileFault>
-    requires { AreSorted (R.rows rows.now) }
-    ensures ok { IfOk result (λ draft. edits_writes (R.rows rows.now) 1 edits.now ≡ Ok draft) }
+/// The draft of the edits alone.
+fn drafted<'a, R: RowStore>(
+    alloc: Global,
+    rows: &'a R,
+    edits: &[Edit],
+) -> Result<Draft<'a, R>, CompileFault>
+    requires sorted { AreSorted (R.rows rows.now) }
+    requires owners { HaveOneOwner (R.rows rows.now) }
+    ensures rows { IfOk result (λ draft. draft.rows ≡ R.rows rows.now) }
+    ensures ok { IfOk result (λ draft. edits_writes (R.rows rows.now) 1 edits.now ≡ Ok draft.writes) }
     ensures err { IfErr result (λ fault. fault ≢ CompileFault.Memory → edits_writes (R.rows rows.now) 1 edits.now ≡ Err fault) }
 {
-    let mut draft = Draft::new(alloc);
+    let mut draft = Draft::new(alloc, rows);
     for (index, edit) in edits.iter().enumerate() {
-        if let Some(rule) = draft.broken_rule(rows, edit)? {
+        draft = prepared(draft, edit)?;
+        if let Some(rule) = draft.broken_rule(edit)? {
             return Err(CompileFault::Broken {
                 row: index as u64 + 1,
                 rule,
@@ -60,13 +73,31 @@ fn drafted<R: RowStore>(alloc: Global, rows: &R, edits: &[Edit]) -> Result<Draft
     Ok(draft)
 }
 
-/// The rule that a batch of these writes breaks as a whole.
-fn broken_by_size(past: Past, writes: &[Write]) -> Option<Rule>
-    ensures { result ≡ broken_by_size past writes.now }
+/// The same draft, which knows the owners of the prefixes of the network that an edit puts a prefix in.
+fn prepared<'a, R: RowStore>(draft: Draft<'a, R>, edit: &Edit) -> Result<Draft<'a, R>, AllocError>
+    ensures { IfOk result (λ same. same ≡ draft.entry) }
 {
-    let all = writes.len().saturating_add(past.writes as usize);
-    if past.batches >= MOST_BATCHES || all > MOST_WRITES {
-        return Some(Rule::G18);
+    match edit {
+        Edit::PrefixPut { net, .. } => draft.knowing(net),
+        _ => Ok(draft),
     }
-    None
+}
+
+impl<'a, R: RowStore> Draft<'a, R> {
+    /// The rule that a batch of the draft's writes breaks as a whole.
+    fn broken_by_batch(&self, past: Past) -> Option<Rule>
+        ensures { result ≡ broken_by_batch self.now.rows past self.now.writes }
+    {
+        if self.total() > MOST_ROWS {
+            return Some(Rule::G16);
+        }
+        let writes = self.writes_len();
+        if writes > MOST_BATCH_WRITES {
+            return Some(Rule::G17);
+        }
+        if past.batches >= MOST_BATCHES || writes + past.writes as usize > MOST_WRITES {
+            return Some(Rule::G18);
+        }
+        None
+    }
 }

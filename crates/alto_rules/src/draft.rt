@@ -1,298 +1,278 @@
-ghost use Rattle.std.specs.Prelude.{◌≡◌, ◌+◌, ◌-◌, ◌^◌, ◌<◌, ◌||◌, [], ◌∷◌, ◌++◌, true, IfOk, option_copied};
-ghost use Rattle.std.specs.BTreeMap.{Updates as MapUpdates};
-ghost use Rattle.std.specs.BTreeSet.{Updates as SetUpdates};
-ghost use Rattle.alto_rows.specs.declared.resource.Resource as resource;
-ghost use Rattle.alto_rows.specs.Order.{key_cmp, resource_cmp};
-ghost use Rattle.alto_rows.specs.Rows.{Rows, AreSorted, has_row, after};
-ghost use Rattle.alto_rows.specs.Touches.{part_of};
-ghost use Rattle.alto_rows.specs.Versions.{cost_declared, declaring_key, is_declared, number_in, version_of};
-ghost use Rattle.alto_rules.specs.Draft.{HasJoined, HasTouched, costs_of, dependents};
-ghost use Rattle.alto_rules.specs.Rules.{broken_rule, declaring, writes_of};
-ghost use Rattle.alto_rules.specs.Versions.{next_version, sequence_writes};
+ghost use Rattle.std.specs.Prelude.{◌≡◌, ◌≢◌, ◌++◌, ◌∷◌, [], length, IfOk, Some, None, true, is_some};
+ghost use Rattle.alto_rows.specs.declared.key.Key.TheVariants as key;
+ghost use Rattle.alto_rows.specs.declared.value.Value.TheVariants as value;
+ghost use Rattle.alto_rows.specs.declared.write.Write.{Write};
+ghost use Rattle.alto_rows.specs.Rows.{AreSorted, has_row};
+ghost use Rattle.alto_rows.specs.Span.{count_in};
+ghost use Rattle.alto_edits.specs.Writes.{deleting, is_free, putting, taking, writes_of};
+ghost use Rattle.alto_rules.specs.Draft.{GivesAlone, HasOwner, HaveOneOwner, drafted_rows, opened, wrote, writing};
+ghost use Rattle.alto_rules.specs.Sizes.{span_of};
 
-use crate::edit::Edit;
-use crate::rule::Rule;
-use alto_names::NetName;
-use alto_rows::{Key, Resource, RowStore, Span, Value, Write, rows_in};
+use crate::counted::Counted;
+use crate::index::Index;
+use crate::owners::Owners;
+use crate::parts::{edit_key, edit_value};
+use crate::place::Place;
+use crate::sizes::Sizes;
+use alto_addr::Prefix;
+use alto_edits::Edit;
+use alto_names::{NetName, PidName};
+use alto_rows::{Key, PackedPrefix, RowStore, Value, Write};
 use std::alloc::{AllocError, Global};
-use std::collections::{BTreeMap, BTreeSet};
 use std::marker::Model;
 
-/// The writes of the edits so far. A contract sees these writes.
+/// The writes of the edits so far, on the rows of a store. A contract sees these rows and the writes.
 #[derive(Drop)]
-pub struct Draft {
-    writes: Vec<Write>,
-    /// Whether a written key has a row after the writes.
-    written: BTreeMap<Key, bool>,
-    /// The resources that the writes are part of.
-    parts: BTreeSet<Resource>,
+pub struct Draft<'a, R: RowStore> {
+    pub rows: &'a R,
+    pub writes: Vec<Write>,
+    pub index: Index,
+    pub sizes: Sizes,
+    pub owners: Owners,
 }
 
-impl Model for Draft {
-    ghost use Rattle.std.specs.Prelude.{List};
-    ghost use Rattle.alto_rows.specs.declared.write.Write.{Write};
-    ghost use Rattle.alto_rules.specs.Draft.{IsIndexed};
+impl<'a, R: RowStore> Model for Draft<'a, R> {
+    ghost use Rattle.alto_rules.specs.Draft.{Drafted};
+    ghost use Rattle.alto_rules.specs.Kept.{IsDraft};
 
-    ghost Value = { List Write };
+    ghost Value = { Drafted };
 
-    ghost view = { λ draft. draft.writes.items };
+    ghost view = { λ draft. record { rows = R.rows draft.rows.now; writes = draft.writes.items } };
 
-    ghost invariant = { λ draft. IsIndexed draft.writes.items draft.written draft.parts };
+    ghost invariant = { λ draft. IsDraft (R.rows draft.rows.now) draft.writes.items draft.index draft.sizes draft.owners };
 }
 
-impl Draft {
+impl<'a, R: RowStore> Draft<'a, R> {
     /// A draft without writes.
-    pub fn new(alloc: Global) -> Self
-        ensures { result ≡ [] }
+    pub fn new(alloc: Global, rows: &'a R) -> Self
+        requires sorted { AreSorted (R.rows rows.now) }
+        requires owners { HaveOneOwner (R.rows rows.now) }
+        ensures { result ≡ opened (R.rows rows.now) }
     {
         Draft {
+            rows,
             writes: Vec::new(alloc),
-            written: BTreeMap::new(alloc),
-            parts: BTreeSet::new(alloc),
+            index: Index::new(alloc),
+            sizes: Sizes::new(alloc, rows),
+            owners: Owners::new(alloc),
         }
     }
 
     /// Whether the key has a row after the writes. Two searches.
-    pub fn has<R: RowStore>(&self, rows: &R, key: &Key) -> bool
-        requires { AreSorted (R.rows rows.now) }
-        ensures { result ≡ has_row (after (R.rows rows.now) self.now) key.now }
+    pub fn has(&self, key: &Key) -> bool
+        ensures { result ≡ has_row (drafted_rows self.now) key.now }
     {
-        match self.written.get(key) {
-            Some(has) => *has,
-            None => rows.get(key).is_some(),
+        match self.index.has(key) {
+            Some(has) => has,
+            None => has_row(self.rows, key),
         }
     }
 
-    /// The first rule that the edit breaks in the rows after the writes.
-    pub fn broken_rule<R: RowStore>(
-        &self,
-        rows: &R,
-        edit: &Edit,
-    ) -> Result<Option<Rule>, AllocError>
-        requires { AreSorted (R.rows rows.now) }
-        ensures { IfOk result (λ rule. rule ≡ broken_rule (after (R.rows rows.now) self.now) edit.now) }
+    /// How many rows of what is counted there are after the writes. A search, or three where the writes left their number.
+    pub fn count(&self, counted: &Counted) -> Result<usize, AllocError>
+        ensures { IfOk result (λ count. count ≡ count_in (drafted_rows self.now) (span_of counted.now)) }
     {
-        match edit {
-            Edit::NetAdd { net } => {
-                let declared = self.has(rows, &Key::Net(net.clone()?));
-                Ok(if declared { Some(Rule::G1) } else { None })
-            }
-            Edit::PidAdd { net, pid } => {
-                if !self.has(rows, &Key::Net(net.clone()?)) {
-                    return Ok(Some(Rule::G3));
-                }
-                let declared = self.has(rows, &Key::Pid(net.clone()?, pid.clone()?));
-                Ok(if declared { Some(Rule::G4) } else { None })
-            }
-        }
+        self.sizes.count(self.rows, counted)
     }
 
-    /// The draft with the edit's writes too.
+    /// How many rows there are after the writes.
+    pub fn total(&self) -> usize
+        ensures { result ≡ length (drafted_rows self.now) }
+    {
+        self.sizes.total
+    }
+
+    /// How many writes there are.
+    pub fn writes_len(&self) -> usize
+        ensures { result ≡ length self.now.writes }
+    {
+        self.writes.len()
+    }
+
+    /// The writes.
+    pub fn into_writes(self) -> Vec<Write>
+        ensures { result.items ≡ self.entry.writes }
+    {
+        self.writes
+    }
+
+    /// The draft with the edit's writes too. A search for each of them, and for a withdrawal what this walks.
     pub fn with(self, edit: &Edit) -> Result<Self, AllocError>
-        ensures { IfOk result (λ draft. (rows : Rows) → draft ≡ self ++ writes_of rows edit.now) }
+        ensures { IfOk result (λ draft. draft ≡ wrote self.entry (writes_of (drafted_rows self.entry) edit.now)) }
     {
+        let key = edit_key(edit)?;
         match edit {
-            Edit::NetAdd { net } => self.declare(net, Key::Net(net.clone()?)),
-            Edit::PidAdd { net, pid } => self.declare(net, Key::Pid(net.clone()?, pid.clone()?)),
-        }
-    }
-
-    /// The writes, and after them the version rows of the declared resources that they touch.
-    pub fn into_batch<R: RowStore>(self, rows: &R) -> Result<Vec<Write>, AllocError>
-        requires sorted { AreSorted (R.rows rows.now) }
-        requires room { (of : resource.Resource) → version_of (R.rows rows.now) of < 2 ^ 63 - 1 }
-        ensures { IfOk result (λ writes. writes.items ≡ self ++ sequence_writes (R.rows rows.now) self) }
-    {
-        let mut versions = self.versions(rows)?;
-        let Draft { mut writes, .. } = self;
-        writes.append(&mut versions)?;
-        Ok(writes)
-    }
-
-    /// The version rows of the declared resources that the writes touch.
-    fn versions<R: RowStore>(&self, rows: &R) -> Result<Vec<Write>, AllocError>
-        requires sorted { AreSorted (R.rows rows.now) }
-        requires room { (of : resource.Resource) → version_of (R.rows rows.now) of < 2 ^ 63 - 1 }
-        ensures { IfOk result (λ versions. versions.items ≡ sequence_writes (R.rows rows.now) self.now) }
-    {
-        let mut versions = Vec::new(*self.writes.allocator());
-        for of in self.touched(rows)? {
-            if self.declares(rows, &of)? {
-                versions.push(next_version(rows, of))?;
+            Edit::NetDrop { .. } | Edit::PidDrop { .. } | Edit::MetricDrop { .. } => {
+                self.withdraw(&key)
+            }
+            Edit::PrefixPut { net, pid, prefix } => self.give(net, pid, prefix),
+            _ => {
+                let value = edit_value(edit)?;
+                self.write(key, value)
             }
         }
-        Ok(versions)
     }
 
-    /// Whether the resource is declared after the writes.
-    fn declares<R: RowStore>(&self, rows: &R, of: &Resource) -> Result<bool, AllocError>
-        requires { AreSorted (R.rows rows.now) }
-        ensures { IfOk result (λ declares. declares ≡ is_declared (after (R.rows rows.now) self.now) of.now) }
+    /// The draft with one write more. Some searches.
+    pub fn write(self, key: Key, value: Option<Value>) -> Result<Self, AllocError>
+        requires alone { is_some value ≡ true → GivesAlone (drafted_rows self) key }
+        ensures { IfOk result (λ draft. draft ≡ wrote self.entry (writing key value ∷ [])) }
     {
-        Ok(self.has(rows, &declaring_key(of)?))
+        let had = self.has(&key);
+        let has = value.is_some();
+        let Draft {
+            rows,
+            writes,
+            index,
+            sizes,
+            owners,
+        } = self;
+        let index = index.with(&key, has)?;
+        let sizes = sizes.with(rows, &key, had, has)?;
+        let owners = owners.with(&key, had, has)?;
+        let writes = with_write(writes, Write { key, value })?;
+        Ok(Draft {
+            rows,
+            writes,
+            index,
+            sizes,
+            owners,
+        })
     }
 
-    /// The resources that the writes touch, and perhaps some that aren't declared.
-    fn touched<R: RowStore>(&self, rows: &R) -> Result<BTreeSet<Resource>, AllocError>
-        requires { AreSorted (R.rows rows.now) }
-        ensures { IfOk result (λ touched. HasTouched (R.rows rows.now) self.now touched) }
+    /// The draft with a prefix given to a PID, and taken from the PID that had it. Some searches where the owners of the
+    /// network's prefixes are known, else one walk over these.
+    fn give(self, net: &NetName, pid: &PidName, prefix: &Prefix) -> Result<Self, AllocError>
+        ensures { IfOk result (λ draft. draft ≡ wrote self.entry (taking (drafted_rows self.entry) net.now pid.now prefix.now
+            ++ putting (key.Prefix net.now pid.now prefix.now) value.Unit ∷ [])) }
     {
-        let mut touched = BTreeSet::new(*self.writes.allocator());
-        for of in &self.parts {
-            touched = with_dependents(rows, touched, of)?;
+        let draft = self.take(net, pid, prefix)?;
+        let key = prefix_key(net, copied_pid(pid)?, prefix)?;
+        draft.write(key, Some(Value::Unit))
+    }
+
+    /// The draft with a prefix taken from any other PID.
+    fn take(self, net: &NetName, pid: &PidName, prefix: &Prefix) -> Result<Self, AllocError>
+        ensures taken { IfOk result (λ draft. draft ≡ wrote self.entry (taking (drafted_rows self.entry) net.now pid.now prefix.now)) }
+        ensures alone { IfOk result (λ draft. GivesAlone (drafted_rows draft) (key.Prefix net.now pid.now prefix.now)) }
+    {
+        match self.owner(net, prefix)? {
+            Some(owner) => self.take_from(net, pid, prefix, owner),
+            None => Ok(self),
         }
-        Ok(touched)
     }
 
-    /// The draft with a write that declares a key of a network's map.
-    fn declare(self, net: &NetName, key: Key) -> Result<Self, AllocError>
-        requires { part_of key ≡ Some (Resource.Net net.now) }
-        ensures { IfOk result (λ draft. draft ≡ self ++ declaring key ∷ []) }
+    /// The draft with a prefix taken from its owner, unless that is the PID itself.
+    fn take_from(
+        self,
+        net: &NetName,
+        pid: &PidName,
+        prefix: &Prefix,
+        owner: PidName,
+    ) -> Result<Self, AllocError>
+        requires sorted { AreSorted (drafted_rows self) }
+        requires owner { HasOwner (drafted_rows self) net.now prefix.now (Some owner) }
+        ensures taken { IfOk result (λ draft. draft ≡ wrote self.entry (taking (drafted_rows self.entry) net.now pid.now prefix.now)) }
+        ensures alone { IfOk result (λ draft. GivesAlone (drafted_rows draft) (key.Prefix net.now pid.now prefix.now)) }
+    {
+        if owner == *pid {
+            return Ok(self);
+        }
+        let key = prefix_key(net, owner, prefix)?;
+        self.write(key, None)
+    }
+
+    /// Whether a prefix is in no PID of a network.
+    pub fn is_free(&self, net: &NetName, prefix: &Prefix) -> Result<bool, AllocError>
+        ensures { IfOk result (λ free. free ≡ is_free (drafted_rows self.now) net.now prefix.now) }
+    {
+        Ok(self.owner(net, prefix)?.is_none())
+    }
+
+    /// The PID that has a prefix after the writes. Two searches where the owners of the network's prefixes are known, else
+    /// one walk over these.
+    fn owner(&self, net: &NetName, prefix: &Prefix) -> Result<Option<PidName>, AllocError>
+        ensures owner { IfOk result (λ owner. HasOwner (drafted_rows self.now) net.now prefix.now owner) }
+        ensures sorted { AreSorted (drafted_rows self.now) }
+    {
+        let owners = &self.owners;
+        let place = Place {
+            net: net.clone()?,
+            prefix: PackedPrefix::new(prefix),
+        };
+        match owners.find(&place)? {
+            Some(owner) => Ok(owner),
+            None if owners.knows(net) => Ok(None),
+            None => owner_before(*self.writes.allocator(), self.rows, net, &place),
+        }
+    }
+
+    /// The same draft, which knows the owners of all prefixes of a network. One walk over these where it doesn't yet.
+    pub fn knowing(self, net: &NetName) -> Result<Self, AllocError>
+        ensures { IfOk result (λ draft. draft ≡ self.entry) }
     {
         let Draft {
+            rows,
             writes,
-            written,
-            parts,
+            index,
+            sizes,
+            owners,
         } = self;
-        let parts = with_resource(parts, Resource::Net(net.clone()?))?;
-        let written = with_key(written, &key)?;
-        let writes = with_declaring(writes, key)?;
+        let owners = owners.knowing(rows, net)?;
         Ok(Draft {
+            rows,
             writes,
-            written,
-            parts,
+            index,
+            sizes,
+            owners,
         })
     }
 }
 
-/// The resources with one more.
-fn with_resource(all: BTreeSet<Resource>, more: Resource) -> Result<BTreeSet<Resource>, AllocError>
-    ensures { IfOk result (λ after. SetUpdates resource_cmp all after more true) }
+/// Whether a key has a row.
+fn has_row<R: RowStore>(rows: &R, key: &Key) -> bool
+    ensures { result ≡ has_row (R.rows rows.now) key.now }
 {
-    let mut after = all;
-    after.insert(more)?;
-    Ok(after)
+    rows.get(key).is_some()
 }
 
-/// The written keys with one more, which has a row.
-fn with_key(written: BTreeMap<Key, bool>, key: &Key) -> Result<BTreeMap<Key, bool>, AllocError>
-    ensures { IfOk result (λ all. MapUpdates key_cmp written all key.now (Some true)) }
+/// The PID that has a prefix before the writes. One walk over the prefixes of the network.
+fn owner_before<R: RowStore>(
+    alloc: Global,
+    rows: &R,
+    net: &NetName,
+    place: &Place,
+) -> Result<Option<PidName>, AllocError>
+    requires owners { HaveOneOwner (R.rows rows.now) }
+    requires net { place.now.net ≡ net.now }
+    ensures { IfOk result (λ owner. HasOwner (R.rows rows.now) net.now place.now.prefix owner) }
 {
-    let mut all = written;
-    all.insert(copied(key)?, true)?;
-    Ok(all)
+    let owners = Owners::new(alloc).knowing(rows, net)?;
+    match owners.find(place)? {
+        Some(owner) => Ok(owner),
+        None => Ok(None),
+    }
 }
 
-/// The writes with one more that declares a key.
-fn with_declaring(writes: Vec<Write>, key: Key) -> Result<Vec<Write>, AllocError>
-    ensures { IfOk result (λ all. all.items ≡ writes.items ++ declaring key ∷ []) }
+/// The key of a prefix in a PID.
+fn prefix_key(net: &NetName, pid: PidName, prefix: &Prefix) -> Result<Key, AllocError>
+    ensures { IfOk result (λ at. at ≡ key.Prefix net.now pid prefix.now) }
+{
+    Ok(Key::Prefix(net.clone()?, pid, PackedPrefix::new(prefix)))
+}
+
+/// A copy of a PID's name.
+fn copied_pid(pid: &PidName) -> Result<PidName, AllocError>
+    ensures { IfOk result (λ copy. copy ≡ pid.now) }
+{
+    pid.clone()
+}
+
+/// The writes with one more.
+fn with_write(writes: Vec<Write>, write: Write) -> Result<Vec<Write>, AllocError>
+    ensures { IfOk result (λ all. all.items ≡ writes.items ++ write ∷ []) }
 {
     let mut all = writes;
-    all.push(Write {
-        key,
-        value: Some(Value::Unit),
-    })?;
+    all.push(write)?;
     Ok(all)
-}
-
-/// The resources with one more and what depends on it: with a network map the network's property map and its cost maps.
-fn with_dependents<R: RowStore>(
-    rows: &R,
-    touched: BTreeSet<Resource>,
-    of: &Resource,
-) -> Result<BTreeSet<Resource>, AllocError>
-    ensures { IfOk result (λ all. HasJoined touched (dependents (R.rows rows.now) of.now) all) }
-{
-    match of {
-        Resource::Net(net) => with_map(rows, touched, net),
-        _ => with_resource(touched, copied_resource(of)?),
-    }
-}
-
-/// The resources with a network's map, its property map and its cost maps.
-fn with_map<R: RowStore>(
-    rows: &R,
-    touched: BTreeSet<Resource>,
-    net: &NetName,
-) -> Result<BTreeSet<Resource>, AllocError>
-    ensures { IfOk result (λ all. HasJoined touched (dependents (R.rows rows.now) (Resource.Net net.now)) all) }
-{
-    let with_net = with_resource(touched, Resource::Net(net.clone()?))?;
-    let with_prop = with_resource(with_net, Resource::Prop(net.clone()?))?;
-    let all = with_costs(rows, with_prop, net)?;
-    Ok(all)
-}
-
-/// The resources with the cost maps that the rows declare of a network.
-fn with_costs<R: RowStore>(
-    rows: &R,
-    touched: BTreeSet<Resource>,
-    net: &NetName,
-) -> Result<BTreeSet<Resource>, AllocError>
-    ensures { IfOk result (λ all. HasJoined touched (costs_of (R.rows rows.now) net.now) all) }
-{
-    let mut all = touched;
-    for row in rows_in(rows, Span::Metrics(net.clone()?)) {
-        if let Some(cost) = cost_declared(row)? {
-            all = with_resource(all, cost)?;
-        }
-    }
-    Ok(all)
-}
-
-/// The cost map that a row declares.
-fn cost_declared(row: &(Key, Value)) -> Result<Option<Resource>, AllocError>
-    ensures { IfOk result (λ cost. cost ≡ cost_declared row.now) }
-{
-    Ok(match &row.0 {
-        Key::Metric(net, metric) => Some(Resource::Cost(net.clone()?, metric.clone()?)),
-        _ => None,
-    })
-}
-
-/// The key that declares a resource.
-fn declaring_key(of: &Resource) -> Result<Key, AllocError>
-    ensures { IfOk result (λ key. key ≡ declaring_key of.now) }
-{
-    Ok(match of {
-        Resource::Net(net) | Resource::Prop(net) => Key::Net(net.clone()?),
-        Resource::Cost(net, metric) => Key::Metric(net.clone()?, metric.clone()?),
-    })
-}
-
-/// A copy of a key.
-fn copied(key: &Key) -> Result<Key, AllocError>
-    ensures { IfOk result (λ copy. copy ≡ key.now) }
-{
-    key.clone()
-}
-
-/// A copy of a resource.
-fn copied_resource(of: &Resource) -> Result<Resource, AllocError>
-    ensures { IfOk result (λ copy. copy ≡ of.now) }
-{
-    of.clone()
-}
-
-/// The write that gives a resource its next version.
-fn next_version<R: RowStore>(rows: &R, of: Resource) -> Write
-    requires { version_of (R.rows rows.now) of < 2 ^ 63 - 1 }
-    ensures { result ≡ next_version (R.rows rows.now) of }
-{
-    let key = Key::Seq(of);
-    let version = number_in(rows.get(&key));
-    Write {
-        key,
-        value: Some(Value::Num(version + 1)),
-    }
-}
-
-/// A row's number, 0 where it has none.
-fn number_in(value: Option<&Value>) -> u64
-    ensures { result ≡ number_in (option_copied value.entry) }
-{
-    match value {
-        Some(Value::Num(n)) => *n,
-        _ => 0,
-    }
 }

@@ -1,13 +1,17 @@
-//! The edits of an import, the rules that they may break, and the writes that they make.
+//! The writes of an import: its edits made one after another, each checked against the rules.
 #![tactic(auto)]
 
+mod checks;
 mod compiler;
+mod counted;
 mod draft;
-mod edit;
-mod rule;
-#[cfg(test)]
-mod tests;
+mod index;
+mod owners;
+mod parts;
+mod place;
+mod sizes;
+mod versions;
+mod withdrawal;
 
+pub use alto_edits::{CompileFault, Edit, Past, PropValue, Rule};
 pub use compiler::compile;
-pub use edit::Edit;
-pub use rule::{CompileFault, Past, Rule};

@@ -5,7 +5,6 @@ use Rattle.alto_book.specs.Legal.{IsLegal}
 use Rattle.alto_book.proofs.AcceptanceLemmas.{extends_itself, extends_on}
 use Rattle.alto_book.proofs.EarlierLemmas.{earlier_is_legal}
 use Rattle.alto_http.specs.Request.{RequestData}
-use Rattle.alto_answers.specs.Answers.{answer_to}
 use Rattle.alto_answers.specs.declared.outcome.Answer.{Answer}
 use Rattle.alto_answers.specs.declared.outcome.Answer.TheVariants as answer
 use Rattle.alto_serve.specs.declared.end.End.TheVariants as end
@@ -40,13 +39,13 @@ short_extends setting request (suc turns) (answer.Edit import) now told after lo
     lost_extends setting.alone setting.time request.close (answer.Edit import) now told after lost
 short_extends setting request (suc turns) (answer.Hold of i j) now told after (inl (t, same)) = rw same (extends_itself now)
 short_extends setting request (suc turns) (answer.Hold of i j) now told after (inr (inl (vain, t, look))) = look.0.extends
-short_extends setting request (suc turns) (answer.Hold of i j) now told after (inr (inr (next, look, rest, e, short))) =
-    extends_on _ _ _ look.extends (short_extends setting request turns (answer_to request next setting.side) next rest after short)
+short_extends setting request (suc turns) (answer.Hold of i j) now told after (inr (inr (next, look, rest, e, later, answers, short))) =
+    extends_on _ _ _ look.extends (short_extends setting request turns later next rest after short)
 
 begun_extends : (setting : Setting) (request : RequestData) (before : Book) (told : Told) (after : Book) → IsBegun setting request before told after → Extends after before
 begun_extends setting request before told after (inl look) = look.0.extends
-begun_extends setting request before told after (inr (first, look, rest, e, short)) =
-    extends_on _ _ _ look.extends (short_extends setting request setting.turns (answer_to request first setting.side) first rest after short)
+begun_extends setting request before told after (inr (first, look, rest, e, met, answers, short)) =
+    extends_on _ _ _ look.extends (short_extends setting request setting.turns met first rest after short)
 
 wants_extends : (setting : Setting) (rest : List ℕ) (before : Book) (told : Told) (after : Book) → WantsMemory setting rest before told after → Extends after before
 wants_extends setting rest before told after (inl (t, same)) = rw same (extends_itself before)

@@ -1,9 +1,9 @@
 -- A request's turn, look by look.
-use Rattle.std.proofs.Common.{◌≡◌, ◌≢◌, ◌⊎◌, ℕ, zero, suc, Bool, true, false, List, [], Option, None, Result, Ok, Err, IfOk, IfErr, OnOk, OnErr, refl, sym, ◌∙◌, ap, subst, inl, inr, length, suc-ne-zero, arith}
+use Rattle.std.proofs.Common.{◌≡◌, ◌≢◌, ◌⊎◌, ℕ, zero, suc, Bool, true, false, List, [], Option, None, Result, Ok, Err, IfOk, IfErr, OnOk, OnErr, refl, sym, ◌∙◌, ap, subst, inl, inr, suc-ne-zero, arith}
 use Rattle.std.proofs.lemmas.Bool.{false≢true}
 use Rattle.alto_book.specs.Acceptance.{accept}
 use Rattle.alto_rows.specs.declared.resource.Resource.{Resource}
-use Rattle.alto_book.specs.Book.{Book, Extends}
+use Rattle.alto_book.specs.Book.{Book, Extends, number_of}
 use Rattle.alto_book.specs.Import.{Import}
 use Rattle.alto_book.specs.declared.command.Receipt.{Receipt}
 use Rattle.alto_book.specs.declared.fault.EditFault.{EditFault}
@@ -12,7 +12,7 @@ use Rattle.alto_http.specs.Link.{one_more}
 use Rattle.alto_book.proofs.AcceptanceLemmas.{accept_extends, extends_itself, extends_on, refused_leaves}
 use Rattle.alto_answers.specs.declared.outcome.Answer.{Answer}
 use Rattle.alto_answers.specs.declared.outcome.Answer.TheVariants as answer
-use Rattle.alto_answers.specs.Answers.{answer_to}
+use Rattle.alto_answers.specs.Answers.{AnswersTo}
 use Rattle.alto_answers.specs.declared.route.Side.{Side}
 use Rattle.alto_http.specs.Request.{RequestData}
 use Rattle.alto_replies.specs.Replies.{edit_reply, too_early}
@@ -96,7 +96,7 @@ lost_import alone time closing tally tally' met now after import is ((told, coun
 
 -- a request has looked once
 pub come_first : (setting : Setting) (request : RequestData) (before now : Book) (left : ℕ) (tally tally' : Tally) (met : Answer)
-    → left ≡ setting.turns → IsLook setting.alone before now → tally' ≡ tally_after tally (one_look now) → met ≡ answer_to request now setting.side
+    → left ≡ setting.turns → IsLook setting.alone before now → tally' ≡ tally_after tally (one_look now) → AnswersTo request now setting.side met
     → Counts (HasCome setting request before left met now) tally tally'
 come_first setting request before now left tally tally' met all look counted is = (
   one_look now,
@@ -104,35 +104,33 @@ come_first setting request before now left tally tally' met all look counted is 
   record {
     silent = refl;
     goes_on = λ rest after comes.
-        let P : Answer → Type 0 = λ met. ComesTo setting request setting.turns met now rest after in
         let Q : ℕ → Type 0 = λ n. ComesTo setting request n met now rest after in
-        (now, look, rest, refl, subst P is (subst Q all comes));
+        (now, look, rest, refl, met, is, subst Q all comes);
     stops = λ rest after short.
-        let P : Answer → Type 0 = λ met. FallsShort setting request setting.turns met now rest after in
         let Q : ℕ → Type 0 = λ n. FallsShort setting request n met now rest after in
-        inr (now, look, rest, refl, subst P is (subst Q all short));
+        inr (now, look, rest, refl, met, is, subst Q all short);
   },
 )
 
 -- an edge that is held comes to what it comes to at the next look
-waits_once : (setting : Setting) (request : RequestData) (left : ℕ) (met : Answer) (now next : Book) (rest : Told) (after : Book)
-    → is_held met ≡ true → IsLook setting.alone now next → ComesTo setting request left (answer_to request next setting.side) next rest after
-    → ComesTo setting request (suc left) met now (both (one_wait (length now.batches)) (both (one_look next) rest)) after
-waits_once setting request left (answer.Hold of i j) now next rest after held look comes = (next, look, rest, refl, comes)
-waits_once setting request left (answer.Reply reply) now next rest after held look comes = absurd (false≢true held)
-waits_once setting request left (answer.Edit import) now next rest after held look comes = absurd (false≢true held)
+waits_once : (setting : Setting) (request : RequestData) (left : ℕ) (met later : Answer) (now next : Book) (rest : Told) (after : Book)
+    → is_held met ≡ true → IsLook setting.alone now next → AnswersTo request next setting.side later → ComesTo setting request left later next rest after
+    → ComesTo setting request (suc left) met now (both (one_wait (number_of now)) (both (one_look next) rest)) after
+waits_once setting request left (answer.Hold of i j) later now next rest after held look is comes = (next, look, rest, refl, later, is, comes)
+waits_once setting request left (answer.Reply reply) later now next rest after held look is comes = absurd (false≢true held)
+waits_once setting request left (answer.Edit import) later now next rest after held look is comes = absurd (false≢true held)
 
 -- memory is wanting behind the next look
-waits_short : (setting : Setting) (request : RequestData) (left : ℕ) (met : Answer) (now next : Book) (rest : Told) (after : Book)
-    → is_held met ≡ true → IsLook setting.alone now next → FallsShort setting request left (answer_to request next setting.side) next rest after
-    → FallsShort setting request (suc left) met now (both (one_wait (length now.batches)) (both (one_look next) rest)) after
-waits_short setting request left (answer.Hold of i j) now next rest after held look short = inr (inr (next, look, rest, refl, short))
-waits_short setting request left (answer.Reply reply) now next rest after held look short = absurd (false≢true held)
-waits_short setting request left (answer.Edit import) now next rest after held look short = absurd (false≢true held)
+waits_short : (setting : Setting) (request : RequestData) (left : ℕ) (met later : Answer) (now next : Book) (rest : Told) (after : Book)
+    → is_held met ≡ true → IsLook setting.alone now next → AnswersTo request next setting.side later → FallsShort setting request left later next rest after
+    → FallsShort setting request (suc left) met now (both (one_wait (number_of now)) (both (one_look next) rest)) after
+waits_short setting request left (answer.Hold of i j) later now next rest after held look is short = inr (inr (next, look, rest, refl, later, is, short))
+waits_short setting request left (answer.Reply reply) later now next rest after held look is short = absurd (false≢true held)
+waits_short setting request left (answer.Edit import) later now next rest after held look is short = absurd (false≢true held)
 
 -- or in it
 waits_in_vain : (setting : Setting) (request : RequestData) (left : ℕ) (met : Answer) (now : Book) (vain : Told) (after : Book)
-    → is_held met ≡ true → IsVainLook setting.alone now vain after → FallsShort setting request (suc left) met now (both (one_wait (length now.batches)) vain) after
+    → is_held met ≡ true → IsVainLook setting.alone now vain after → FallsShort setting request (suc left) met now (both (one_wait (number_of now)) vain) after
 waits_in_vain setting request left (answer.Hold of i j) now vain after held look = inr (inl (vain, refl, look))
 waits_in_vain setting request left (answer.Reply reply) now vain after held look = absurd (false≢true held)
 waits_in_vain setting request left (answer.Edit import) now vain after held look = absurd (false≢true held)
@@ -141,29 +139,27 @@ waits_in_vain setting request left (answer.Edit import) now vain after held look
 pub come_more : (setting : Setting) (request : RequestData) (before now next : Book) (ahead left : ℕ) (tally mid waited looked : Tally)
     (met met' : Answer)
     → is_held met ≡ true → ahead ≡ suc left → Counts (HasCome setting request before ahead met now) tally mid
-    → waited ≡ tally_after mid (one_wait (length now.batches)) → IsLook setting.alone now next → looked ≡ tally_after waited (one_look next)
-    → met' ≡ answer_to request next setting.side
+    → waited ≡ tally_after mid (one_wait (number_of now)) → IsLook setting.alone now next → looked ≡ tally_after waited (one_look next)
+    → AnswersTo request next setting.side met'
     → Counts (HasCome setting request before left met' next) tally looked
 come_more setting request before now next ahead left tally mid waited looked met met' held one_left (told, counted, come) once look looks_once is' = (
-  both (both told (one_wait (length now.batches))) (one_look next),
-  looks_once ∙ ap (λ t. tally_after t (one_look next)) (once ∙ ap (λ t. tally_after t (one_wait (length now.batches))) counted ∙ tally_more tally told (one_wait (length now.batches)))
-      ∙ tally_more tally (both told (one_wait (length now.batches))) (one_look next),
+  both (both told (one_wait (number_of now))) (one_look next),
+  looks_once ∙ ap (λ t. tally_after t (one_look next)) (once ∙ ap (λ t. tally_after t (one_wait (number_of now))) counted ∙ tally_more tally told (one_wait (number_of now)))
+      ∙ tally_more tally (both told (one_wait (number_of now))) (one_look next),
   record {
     silent = rw come.silent refl;
     goes_on = λ rest after comes.
-        let P : Answer → Type 0 = λ met. ComesTo setting request left met next rest after in
-        let Q : ℕ → Type 0 = λ n. ComesTo setting request n met now (both (one_wait (length now.batches)) (both (one_look next) rest)) after in
+        let Q : ℕ → Type 0 = λ n. ComesTo setting request n met now (both (one_wait (number_of now)) (both (one_look next) rest)) after in
         let T : Told → Type 0 = λ told. TakesTurn setting request before told after in
-        subst T (both_all told (one_wait (length now.batches)) (both (one_look next) rest) ∙ both_all (both told (one_wait (length now.batches))) (one_look next) rest)
-        (come.goes_on (both (one_wait (length now.batches)) (both (one_look next) rest)) after
-        (subst Q (sym one_left) (waits_once setting request left met now next rest after held look (subst P is' comes))));
+        subst T (both_all told (one_wait (number_of now)) (both (one_look next) rest) ∙ both_all (both told (one_wait (number_of now))) (one_look next) rest)
+        (come.goes_on (both (one_wait (number_of now)) (both (one_look next) rest)) after
+        (subst Q (sym one_left) (waits_once setting request left met met' now next rest after held look is' comes)));
     stops = λ rest after short.
-        let P : Answer → Type 0 = λ met. FallsShort setting request left met next rest after in
-        let Q : ℕ → Type 0 = λ n. FallsShort setting request n met now (both (one_wait (length now.batches)) (both (one_look next) rest)) after in
+        let Q : ℕ → Type 0 = λ n. FallsShort setting request n met now (both (one_wait (number_of now)) (both (one_look next) rest)) after in
         let T : Told → Type 0 = λ told. IsBegun setting request before told after in
-        subst T (both_all told (one_wait (length now.batches)) (both (one_look next) rest) ∙ both_all (both told (one_wait (length now.batches))) (one_look next) rest)
-        (come.stops (both (one_wait (length now.batches)) (both (one_look next) rest)) after
-        (subst Q (sym one_left) (waits_short setting request left met now next rest after held look (subst P is' short))));
+        subst T (both_all told (one_wait (number_of now)) (both (one_look next) rest) ∙ both_all (both told (one_wait (number_of now))) (one_look next) rest)
+        (come.stops (both (one_wait (number_of now)) (both (one_look next) rest)) after
+        (subst Q (sym one_left) (waits_short setting request left met met' now next rest after held look is' short)));
   },
 )
 
@@ -211,22 +207,22 @@ begun_first side alone turns request before after tally looked (told, counted, v
 -- in a look behind a wait
 begun_behind : (setting : Setting) (request : RequestData) (before now after : Book) (ahead left : ℕ) (tally mid waited looked : Tally) (met : Answer)
     → is_held met ≡ true → ahead ≡ suc left → Counts (HasCome setting request before ahead met now) tally mid
-    → waited ≡ tally_after mid (one_wait (length now.batches)) → Counts (λ told. IsVainLook setting.alone now told after) waited looked
+    → waited ≡ tally_after mid (one_wait (number_of now)) → Counts (λ told. IsVainLook setting.alone now told after) waited looked
     → Counts (λ told. IsBegun setting request before told after) tally looked
 begun_behind setting request before now after ahead left tally mid waited looked met held one_left (told, counted, come) once (vain, vainly, look) =
-    let Q : ℕ → Type 0 = λ n. FallsShort setting request n met now (both (one_wait (length now.batches)) vain) after in (
-      both told (both (one_wait (length now.batches)) vain),
-      vainly ∙ ap (λ t. tally_after t vain) (once ∙ ap (λ t. tally_after t (one_wait (length now.batches))) counted ∙ tally_more tally told (one_wait (length now.batches)))
-          ∙ tally_more tally (both told (one_wait (length now.batches))) vain
-          ∙ ap (λ t. tally_after tally t) (sym (both_all told (one_wait (length now.batches)) vain)),
-      come.stops (both (one_wait (length now.batches)) vain) after (subst Q (sym one_left) (waits_in_vain setting request left met now vain after held look)),
+    let Q : ℕ → Type 0 = λ n. FallsShort setting request n met now (both (one_wait (number_of now)) vain) after in (
+      both told (both (one_wait (number_of now)) vain),
+      vainly ∙ ap (λ t. tally_after t vain) (once ∙ ap (λ t. tally_after t (one_wait (number_of now))) counted ∙ tally_more tally told (one_wait (number_of now)))
+          ∙ tally_more tally (both told (one_wait (number_of now))) vain
+          ∙ ap (λ t. tally_after tally t) (sym (both_all told (one_wait (number_of now)) vain)),
+      come.stops (both (one_wait (number_of now)) vain) after (subst Q (sym one_left) (waits_in_vain setting request left met now vain after held look)),
     )
 
 pub begun_look : (side : Side) (alone : Bool) (turns : ℕ) (request : RequestData) (before now after : Book) (ahead left : ℕ)
     (tally mid waited looked : Tally) (met : Answer)
     → is_held met ≡ true → ahead ≡ suc left
     → ((time : Option ℕ) → Counts (HasCome (setting_of side time alone turns) request before ahead met now) tally mid)
-    → waited ≡ tally_after mid (one_wait (length now.batches)) → Counts (λ told. IsVainLook alone now told after) waited looked
+    → waited ≡ tally_after mid (one_wait (number_of now)) → Counts (λ told. IsVainLook alone now told after) waited looked
     → (time : Option ℕ) → Counts (λ told. IsBegun (setting_of side time alone turns) request before told after) tally looked
 begun_look side alone turns request before now after ahead left tally mid waited looked met held one_left come once vain time =
     begun_behind (setting_of side time alone turns) request before now after ahead left tally mid waited looked met held one_left (come time) once vain
@@ -262,15 +258,15 @@ short_silent setting request (suc left) (answer.Edit import) now told after lost
 short_silent setting request (suc left) (answer.Hold of i j) now told after (inl (is, same)) = ap (λ t. t.written) is
 short_silent setting request (suc left) (answer.Hold of i j) now told after (inr (inl (vain, is, look))) =
     ap (λ t. t.written) is ∙ vain_silent setting.alone now vain after look
-short_silent setting request (suc left) (answer.Hold of i j) now told after (inr (inr (next, look, rest, is, short))) =
-    ap (λ t. t.written) is ∙ short_silent setting request left (answer_to request next setting.side) next rest after short
+short_silent setting request (suc left) (answer.Hold of i j) now told after (inr (inr (next, look, rest, is, later, answers, short))) =
+    ap (λ t. t.written) is ∙ short_silent setting request left later next rest after short
 
 -- a request whose reply memory was wanting for wrote nothing
 pub begun_silent : (setting : Setting) (request : RequestData) (before : Book) (told : Told) (after : Book)
     → IsBegun setting request before told after → told.written ≡ []
 begun_silent setting request before told after (inl vain) = vain_silent setting.alone before told after vain
-begun_silent setting request before told after (inr (first, look, rest, is, short)) =
-    ap (λ t. t.written) is ∙ short_silent setting request setting.turns (answer_to request first setting.side) first rest after short
+begun_silent setting request before told after (inr (first, look, rest, is, met, answers, short)) =
+    ap (λ t. t.written) is ∙ short_silent setting request setting.turns met first rest after short
 
 -- ---- the whole turn
 

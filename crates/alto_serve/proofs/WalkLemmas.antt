@@ -22,7 +22,7 @@ use Rattle.alto_http.specs.declared.request.Verb.{Verb}
 use Rattle.alto_http.specs.declared.request.Verb.TheVariants as verb
 use Rattle.alto_replies.specs.Replies.{not_found, wrong_method, too_early, edit_reply}
 use Rattle.alto_replies.specs.Reply.{ReplyData, bytes_of}
-use Rattle.alto_answers.specs.Answers.{answer_to}
+use Rattle.alto_answers.specs.Answers.{AnswersTo}
 use Rattle.alto_answers.specs.Edges.{edge_by, edge_number, edge_reply, edges_answer}
 use Rattle.alto_answers.specs.Routes.{place_of}
 use Rattle.alto_answers.specs.Target.{path_of, segment}
@@ -96,10 +96,10 @@ edge_for verb.Post look of i j = answer.Reply (wrong_method verb.Get)
 edge_for verb.Other look of i j = answer.Reply (wrong_method verb.Get)
 
 -- what a request for an edge is answered
-answer-asked : (look : Book) (side : Side) (request : RequestData) (of : Resource) (i j : ℕ) → AsksEdge side request of i j
-    → answer_to request look side ≡ edge_for request.verb look of i j
-unfolding answer_to
-answer-asked look side request of i j a = rw a.routed (by request.verb)
+answer-asked : (look : Book) (side : Side) (request : RequestData) (of : Resource) (i j : ℕ) (met : Answer) → AsksEdge side request of i j
+    → AnswersTo request look side met → met ≡ edge_for request.verb look of i j
+unfolding AnswersTo
+answer-asked look side request of i j met a is = (rw a.routed at is) ∙ by request.verb
   where
     by : (v : Verb) → edges_answer v look (segment (path_of request.target) 2) (segment (path_of request.target) 4) (segment (path_of request.target) 5)
         ≡ edge_for v look of i j
@@ -146,16 +146,16 @@ pub record IsTold (setting : Setting) (request : RequestData) (told : Told) (aft
       → (reply.body ≡ compact_text value) × IsAnswered after of (record { i = i; j = j; body = value })
 
 -- a reply that stands
-replied : (setting : Setting) (request : RequestData) (look : Book) (reply : ReplyData) → answer_to request look setting.side ≡ answer.Reply reply
+replied : (setting : Setting) (request : RequestData) (look : Book) (reply : ReplyData) → AnswersTo request look setting.side (answer.Reply reply)
     → (of : Resource) (i j : ℕ) → AsksEdge setting.side request of i j → reply.status ≡ 200
     → (reply.body ≡ compact_text (value_at look setting.side request))
     × IsAnswered look of (record { i = i; j = j; body = value_at look setting.side request })
 replied setting request look reply is of i j a ok =
-    let had : IsHad look of i j reply = had_for request.verb look of i j reply (sym (answer-asked look setting.side request of i j a) ∙ is) ok in
+    let had : IsHad look of i j reply = had_for request.verb look of i j reply (sym (answer-asked look setting.side request of i j (answer.Reply reply) a is)) ok in
     let value : value_at look setting.side request ≡ edge_body look of i j = value-asked look setting.side request of i j a in
     (had.body ∙ ap compact_text (sym value), record { look = look; extends = extends_itself look; declared = had.declared; here = had.here; body = value })
 
-concluded : (setting : Setting) (request : RequestData) (met : Answer) (now : Book) (told : Told) (after : Book) → answer_to request now setting.side ≡ met
+concluded : (setting : Setting) (request : RequestData) (met : Answer) (now : Book) (told : Told) (after : Book) → AnswersTo request now setting.side met
     → Concludes setting.alone setting.time request.close met now told after → IsTold setting request told after × Extends after now
 concluded setting request (answer.Reply reply) now told after is (t, same) = (
   record {
@@ -180,27 +180,27 @@ concluded setting request (answer.Edit import) now told after is (moment, decide
     reply = edit_reply decided;
     value = null;
     written = ap (λ (told : Told). told.written) t;
-    brings = λ of i j a ok. absurd (no_import request.verb now of i j import (sym (answer-asked now setting.side request of i j a) ∙ is));
+    brings = λ of i j a ok. absurd (no_import request.verb now of i j import (sym (answer-asked now setting.side request of i j (answer.Edit import) a is)));
   },
   answered_extends setting.alone now import moment faults decided after answered,
 )
 
 comes : (setting : Setting) (request : RequestData) (turns : ℕ) (met : Answer) (now : Book) (told : Told) (after : Book)
-    → answer_to request now setting.side ≡ met → ComesTo setting request turns met now told after → IsTold setting request told after × Extends after now
+    → AnswersTo request now setting.side met → ComesTo setting request turns met now told after → IsTold setting request told after × Extends after now
 comes setting request zero met now told after is c = concluded setting request met now told after is c
 comes setting request (suc turns) (answer.Reply reply) now told after is c = concluded setting request (answer.Reply reply) now told after is c
 comes setting request (suc turns) (answer.Edit import) now told after is c = concluded setting request (answer.Edit import) now told after is c
-comes setting request (suc turns) (answer.Hold of i j) now told after is (next, look, rest, e, c) =
-    let later : IsTold setting request rest after × Extends after next = comes setting request turns (answer_to request next setting.side) next rest after refl c in (
+comes setting request (suc turns) (answer.Hold of i j) now told after is (next, look, rest, e, met, answers, c) =
+    let later : IsTold setting request rest after × Extends after next = comes setting request turns met next rest after answers c in (
       record { reply = later.0.reply; value = later.0.value; written = ap (λ (told : Told). told.written) e ∙ later.0.written; brings = later.0.brings },
       extends_on _ _ _ look.extends later.1,
     )
 
 pub turn_told : (setting : Setting) (request : RequestData) (before : Book) (told : Told) (after : Book) → TakesTurn setting request before told after
     → IsTold setting request told after × Extends after before
-turn_told setting request before told after (first, look, rest, e, c) =
+turn_told setting request before told after (first, look, rest, e, met, answers, c) =
     let later : IsTold setting request rest after × Extends after first =
-    comes setting request setting.turns (answer_to request first setting.side) first rest after refl c in (
+    comes setting request setting.turns met first rest after answers c in (
       record { reply = later.0.reply; value = later.0.value; written = ap (λ (told : Told). told.written) e ∙ later.0.written; brings = later.0.brings },
       extends_on _ _ _ look.extends later.1,
     )

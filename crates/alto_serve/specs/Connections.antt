@@ -21,7 +21,8 @@ abbrev pub AnswersAll : Setting → Book → List RequestData → Told → Book 
 AnswersAll setting before [] told after = (told ≡ nothing) × (after ≡ before)
 AnswersAll setting before (request ∷ requests) told after =
     (first : Told) × (between : Book) × (more : Told)
-    × TakesTurn setting request before first between × (told ≡ both first more) × AnswersAll setting between requests more after
+    × TakesTurn setting request before first between × (told ≡ both first more)
+    × AnswersAll setting between requests more after
 
 -- bytes are these requests, none of which closes, and then the rest
 abbrev pub LeadsTo : List ℕ → List RequestData → List ℕ → Type 0
@@ -30,7 +31,9 @@ LeadsTo bytes (request ∷ requests) rest =
     (behind : List ℕ) × Begins bytes request behind × (request.close ≡ false) × LeadsTo behind requests rest
 
 -- the first requests of the bytes, so many of them, were replied to, and the connection goes on at the rest
-pub record Serves (setting : Setting) (bytes : List ℕ) (before : Book) (count : ℕ) (rest : List ℕ) (told : Told) (after : Book) : Type 0 where
+pub record Serves
+    (setting : Setting) (bytes : List ℕ) (before : Book) (count : ℕ) (rest : List ℕ) (told : Told) (after : Book)
+    : Type 0 where
   pub requests : List RequestData
   pub counted : length requests ≡ count
   pub leads : LeadsTo bytes requests rest
@@ -56,7 +59,9 @@ IsWithin cut count = count < most_requests
 IsWithin (refused fault) count = count < most_requests
 
 -- the bytes are requests that were all replied to, and an ending
-pub record ServesAll (setting : Setting) (bytes : List ℕ) (ending : Ending) (before : Book) (told : Told) (after : Book) : Type 0 where
+pub record ServesAll
+    (setting : Setting) (bytes : List ℕ) (ending : Ending) (before : Book) (told : Told) (after : Book)
+    : Type 0 where
   pub requests : List RequestData
   pub replies : Told
   pub splits : Splits bytes requests ending
@@ -68,13 +73,17 @@ pub record ServesAll (setting : Setting) (bytes : List ℕ) (ending : Ending) (b
 abbrev pub WantsMemory : Setting → List ℕ → Book → Told → Book → Type 0
 WantsMemory setting rest before told after =
     ((told ≡ nothing) × (after ≡ before))
-    ⊎ ((request : RequestData) × (behind : List ℕ) × Begins rest request behind × IsBegun setting request before told after)
+    ⊎ ((request : RequestData) × (behind : List ℕ) × Begins rest request behind
+    × IsBegun setting request before told after)
 
--- what comes next to be told: the reply to the next request, the refusal of what is none, or the reply to want of memory
+-- what comes next to be told: the reply to the next request, the refusal of what is none, or the reply to want of
+-- memory
 abbrev pub IsNext : Setting → List ℕ → Book → Told → Book → Type 0
 IsNext setting rest before told after =
-    ((request : RequestData) × (behind : List ℕ) × Begins rest request behind × TakesTurn setting request before told after)
-    ⊎ ((fault : HeadFault) × IsRefused rest fault × (told ≡ only_written (refusal_bytes (head_status fault))) × (after ≡ before))
+    ((request : RequestData) × (behind : List ℕ) × Begins rest request behind
+    × TakesTurn setting request before told after)
+    ⊎ ((fault : HeadFault) × IsRefused rest fault
+    × (told ≡ only_written (refusal_bytes (head_status fault))) × (after ≡ before))
     ⊎ ((begun : Told) × WantsMemory setting rest before begun after × (told ≡ both begun (only_written memory_reply)))
 
 -- the same, of whose bytes only so many were written
@@ -95,7 +104,9 @@ pub record BreaksOff (setting : Setting) (bytes : List ℕ) (before : Book) (tol
   pub ends : told ≡ both replies (cut_off size whole)
 
 -- requests were replied to, and then memory was wanting, which was told; or it was wanting before a byte was read
-pub record RunsShort (setting : Setting) (bytes : List ℕ) (left : Option (List ℕ)) (before : Book) (told : Told) (after : Book) : Type 0 where
+pub record RunsShort
+    (setting : Setting) (bytes : List ℕ) (left : Option (List ℕ)) (before : Book) (told : Told) (after : Book)
+    : Type 0 where
   pub count : ℕ
   pub few : count < most_requests
   pub rest : List ℕ
@@ -104,10 +115,11 @@ pub record RunsShort (setting : Setting) (bytes : List ℕ) (left : Option (List
   pub serves : Serves setting bytes before count rest replies between
   pub begun : Told
   pub wants : WantsMemory setting rest between begun after
-  pub ends : (told ≡ both replies (both begun (only_written memory_reply))) ⊎ ((told ≡ nothing) × (count ≡ 0) × (after ≡ before) × (left ≡ Some bytes))
+  pub ends : (told ≡ both replies (both begun (only_written memory_reply)))
+      ⊎ ((told ≡ nothing) × (count ≡ 0) × (after ≡ before) × (left ≡ Some bytes))
 
--- what each end says of the bytes that the link had to give, of those that it has left, of what was told, and of the book.
--- A read's fault: each request was answered that lay whole in what the link gave
+-- what each end says of the bytes that the link had to give, of those that it has left, of what was told, and of the
+-- book. A read's fault: each request was answered that lay whole in what the link gave
 abbrev pub Ended : End → Setting → List ℕ → Option (List ℕ) → Book → Told → Book → Type 0
 Ended end.Closed setting bytes left before told after =
     (ending : Ending) × (ending ≢ cut) × ServesAll setting bytes ending before told after

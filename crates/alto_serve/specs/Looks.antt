@@ -14,13 +14,16 @@ pub record IsLook (alone : Bool) (before look : Book) : Type 0 where
   pub same : alone ≡ true → look ≡ before
 
 -- an import that comes at a moment is accepted or refused at a look, and the book that is seen then has what came of it
-pub record IsDecided (alone : Bool) (before : Book) (import : Import) (moment : ℕ) (answer : Result Receipt EditFault) (after : Book) : Type 0 where
+pub record IsDecided
+    (alone : Bool) (before : Book) (import : Import) (moment : ℕ) (answer : Result Receipt EditFault) (after : Book)
+    : Type 0 where
   pub look : Book
   pub looked : IsLook alone before look
   pub answered : (accept look import moment).answer ≡ answer
   pub seen : IsLook alone (accept look import moment).book after
 
--- what an import is answered: it is accepted or refused, or its batch couldn't be kept, while so many faults of records were counted
+-- what an import is answered: it is accepted or refused, or its batch couldn't be kept, while so many faults of records
+-- were counted
 abbrev pub IsAnswered : Bool → Book → Import → ℕ → ℕ → Result Receipt EditFault → Book → Type 0
 IsAnswered alone before import moment faults answer after =
     IsDecided alone before import moment answer after

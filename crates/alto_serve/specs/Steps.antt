@@ -15,7 +15,9 @@ use Rattle.alto_serve.specs.Turns.{IsBegun, Setting, TakesTurn}
 use Rattle.alto_serve.specs.Connections.{Serves, WantsMemory, IsNext, cut_off, last_words, refusal_bytes}
 
 -- the next request is replied to, and the connection goes on behind it
-pub record GoesOn (setting : Setting) (rest : List ℕ) (left : Option (List ℕ)) (before : Book) (told : Told) (after : Book) : Type 0 where
+pub record GoesOn
+    (setting : Setting) (rest : List ℕ) (left : Option (List ℕ)) (before : Book) (told : Told) (after : Book)
+    : Type 0 where
   pub request : RequestData
   pub behind : List ℕ
   pub begins : Begins rest request behind
@@ -26,8 +28,10 @@ pub record GoesOn (setting : Setting) (rest : List ℕ) (left : Option (List ℕ
 -- the connection ends where the rest of its bytes begins
 abbrev pub Finishes : End → Setting → List ℕ → Option (List ℕ) → Book → Told → Book → Type 0
 Finishes end.Closed setting rest left before told after =
-    ((ending : Ending) × Ends rest ending × (ending ≢ cut) × (told ≡ only_written (last_words ending)) × (after ≡ before))
-    ⊎ ((request : RequestData) × (behind : List ℕ) × Begins rest request behind × (request.close ≡ true) × TakesTurn setting request before told after)
+    ((ending : Ending) × Ends rest ending × (ending ≢ cut)
+    × (told ≡ only_written (last_words ending)) × (after ≡ before))
+    ⊎ ((request : RequestData) × (behind : List ℕ) × Begins rest request behind × (request.close ≡ true)
+    × TakesTurn setting request before told after)
 Finishes end.Cut setting rest left before told after = Ends rest cut × (told ≡ nothing) × (after ≡ before)
 Finishes end.Limit setting rest left before told after = ⊥
 Finishes end.ReadFault setting rest left before told after =
@@ -39,7 +43,8 @@ Finishes end.Memory setting rest left before told after =
 
 -- a connection ends with the answer to a request
 abbrev pub Responds : End → Setting → RequestData → Book → Told → Book → Type 0
-Responds end.Closed setting request before told after = (request.close ≡ true) × TakesTurn setting request before told after
+Responds end.Closed setting request before told after =
+    (request.close ≡ true) × TakesTurn setting request before told after
 Responds end.WriteFault setting request before told after =
     (whole : Told) × (size : ℕ) × (told ≡ cut_off size whole)
     × (TakesTurn setting request before whole after
@@ -75,12 +80,15 @@ TellsMemory _ written = ⊥
 abbrev pub RefusesWith : End → ℕ → List ℕ → Type 0
 RefusesWith end.Closed status written = written ≡ refusal_bytes (Some status)
 RefusesWith end.WriteFault status written =
-    (whole : List ℕ) × (size : ℕ) × (written ≡ take size whole) × ((whole ≡ refusal_bytes (Some status)) ⊎ (whole ≡ memory_reply))
+    (whole : List ℕ) × (size : ℕ) × (written ≡ take size whole)
+    × ((whole ≡ refusal_bytes (Some status)) ⊎ (whole ≡ memory_reply))
 RefusesWith end.Memory status written = written ≡ memory_reply
 RefusesWith _ status written = ⊥
 
 -- what a connection has come to before its next request
-pub record HasServed (setting : Setting) (bytes : List ℕ) (before : Book) (count : ℕ) (left : Option (List ℕ)) (first now : Account) (after : Book) : Type 0 where
+pub record HasServed
+    (setting : Setting) (bytes : List ℕ) (before : Book) (count : ℕ) (left : Option (List ℕ)) (first now : Account)
+    (after : Book) : Type 0 where
   pub rest : List ℕ
   pub told : Told
   pub leaves : left ≡ Some rest

@@ -1,10 +1,10 @@
 -- What a connection brings about beside the book: what it writes, and how it looks and waits.
 use Rattle.std.specs.Prelude.{◌≡◌, ◌≤◌, ℕ, ◌+◌, zero, suc, List, [], ◌∷◌, ◌++◌, length, Option}
-use Rattle.alto_book.specs.Book.{Book}
+use Rattle.alto_book.specs.Book.{Book, number_of}
 use Rattle.alto_http.specs.Link.{extended, one_more}
 
--- bytes that were written, how many looks and waits were taken, how many faults of records were counted, the numbers of the books
--- that were looked at, and the numbers that were waited past
+-- bytes that were written, how many looks and waits were taken, how many faults of records were counted, the numbers of
+-- the books that were looked at, and the numbers that were waited past
 pub record Told : Type 0 where
   pub written : List ℕ
   pub looks : ℕ
@@ -21,9 +21,9 @@ nothing = record { written = []; looks = 0; waits = 0; faults = 0; numbers = [];
 abbrev pub only_written : List ℕ → Told
 only_written bytes = record { written = bytes; looks = 0; waits = 0; faults = 0; numbers = []; waited = [] }
 
--- a look at a book, whose number is how many batches it has
+-- a look at a book, whose number is how many batches there were
 abbrev pub one_look : Book → Told
-one_look book = record { written = []; looks = 1; waits = 0; faults = 0; numbers = length book.batches ∷ []; waited = [] }
+one_look book = record { written = []; looks = 1; waits = 0; faults = 0; numbers = number_of book ∷ []; waited = [] }
 
 -- the look of an import, while so many faults of records are counted. It has no number
 abbrev pub edit_look : ℕ → Told
@@ -48,8 +48,8 @@ both first second = record {
 abbrev pub unwritten : Told → Told
 unwritten told = record told { written = [] }
 
--- what an office counts: looks, waits, faults of its records, and the numbers of the books that were looked at and those that were
--- waited past, where it tells them
+-- what an office counts: looks, waits, faults of its records, and the numbers of the books that were looked at and those
+-- that were waited past, where it tells them
 pub record Tally : Type 0 where
   pub looks : ℕ
   pub waits : ℕ

@@ -53,8 +53,8 @@ LeadsAlong side exchanges of from [] at = from ≡ at
 LeadsAlong side exchanges of from (edge ∷ edges) at =
     (edge.i ≡ from) × Brought side exchanges of edge × LeadsAlong side exchanges of edge.j edges at
 
--- what a connection told, exchange by exchange: whoever follows edges that it brought, in any order in which they lead on, comes from
--- the document at the beginning, or from 0 with nothing, to the document at the end
+-- what a connection told, exchange by exchange: whoever follows edges that it brought, in any order in which they lead
+-- on, comes from the document at the beginning, or from 0 with nothing, to the document at the end
 pub record Exchanged (side : Side) (requests : List RequestData) (told : Told) (after : Book) : Type 0 where
   pub exchanges : List Exchange
   pub whole : map (λ exchange. exchange.request) exchanges ≡ requests
@@ -67,16 +67,20 @@ pub record Exchanged (side : Side) (requests : List RequestData) (told : Told) (
 
 -- the turns of a connection's requests are such exchanges
 abbrev pub ConnectionsLeadOn : Type 0
-ConnectionsLeadOn = (setting : Setting) (before after : Book) (requests : List RequestData) (told : Told) → IsLegal after
-    → AnswersAll setting before requests told after → Exchanged setting.side requests told after
+ConnectionsLeadOn = (setting : Setting) (before after : Book) (requests : List RequestData) (told : Told)
+    → IsLegal after → AnswersAll setting before requests told after → Exchanged setting.side requests told after
 
--- the requests that a connection replied to, of which its end tells, are such exchanges over the book behind the last of them
-abbrev pub LeadsOn : (ended : End) (setting : Setting) (bytes : List ℕ) (left : Option (List ℕ)) (before : Book) (told : Told) (after : Book)
-    → Ended ended setting bytes left before told after → Type 0
-LeadsOn end.Closed setting bytes left before told after (ending, is, all) = Exchanged setting.side all.requests all.replies after
+-- the requests that a connection replied to, of which its end tells, are such exchanges over the book behind the last of
+-- them
+abbrev pub LeadsOn : (ended : End) (setting : Setting) (bytes : List ℕ) (left : Option (List ℕ)) (before : Book)
+    (told : Told) (after : Book) → Ended ended setting bytes left before told after → Type 0
+LeadsOn end.Closed setting bytes left before told after (ending, is, all) =
+    Exchanged setting.side all.requests all.replies after
 LeadsOn end.Cut setting bytes left before told after all = Exchanged setting.side all.requests all.replies after
-LeadsOn end.Limit setting bytes left before told after (rest, serves) = Exchanged setting.side serves.requests told after
-LeadsOn end.ReadFault setting bytes left before told after (given, ending, split, is, all) = Exchanged setting.side all.requests all.replies after
+LeadsOn end.Limit setting bytes left before told after (rest, serves) =
+    Exchanged setting.side serves.requests told after
+LeadsOn end.ReadFault setting bytes left before told after (given, ending, split, is, all) =
+    Exchanged setting.side all.requests all.replies after
 LeadsOn end.WriteFault setting bytes left before told after off =
     Extends after off.between × Exchanged setting.side off.serves.requests off.replies off.between
 LeadsOn end.Memory setting bytes left before told after short =
@@ -84,5 +88,6 @@ LeadsOn end.Memory setting bytes left before told after short =
 
 -- so it is at each end of a connection
 abbrev pub EndsLeadOn : Type 0
-EndsLeadOn = (ended : End) (setting : Setting) (bytes : List ℕ) (left : Option (List ℕ)) (before : Book) (told : Told) (after : Book) → IsLegal after
-    → (came : Ended ended setting bytes left before told after) → LeadsOn ended setting bytes left before told after came
+EndsLeadOn = (ended : End) (setting : Setting) (bytes : List ℕ) (left : Option (List ℕ)) (before : Book) (told : Told)
+    (after : Book) → IsLegal after → (came : Ended ended setting bytes left before told after)
+    → LeadsOn ended setting bytes left before told after came

@@ -1,4 +1,5 @@
-//! Connections: requests are read, each is answered at the version that an office has then, and the replies are written.
+//! Connections: requests are read, each is answered at the version that an office has then, and the replies are
+//! written.
 //!
 //! ```text
 //! Link ── read_request ──▶ Request ── answer ──▶ Answer ── settled, conclude ──▶ Reply ── write_all ──▶ Link

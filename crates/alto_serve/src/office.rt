@@ -1,6 +1,6 @@
 ghost use Rattle.std.specs.Prelude.{◌≡◌, ◌≢◌, ℕ, Bool, Err, IfOk, OnOk, OnErr, All};
 ghost use Rattle.std.specs.Arc.{arc_value};
-ghost use Rattle.alto_rules.specs.Rules.{IsEdit};
+ghost use Rattle.alto_edits.specs.Edits.{IsEdit};
 ghost use Rattle.alto_book.specs.Book.{Book};
 ghost use Rattle.alto_book.specs.Legal.{IsLegal};
 ghost use Rattle.alto_desk.specs.Front.{StandsFor};
@@ -23,8 +23,8 @@ pub trait Looks {
     /// The book that was seen last.
     ghost seen: { Self → Book };
 
-    /// How often it was looked and waited, how many faults of records were counted, and the numbers of the books that were looked at
-    /// and those that were waited past, where they are told.
+    /// How often it was looked and waited, how many faults of records were counted, and the numbers of the books that
+    /// were looked at and those that were waited past, where they are told.
     ghost tally: { Self → Tally };
 
     /// Looks: gives the version of a book that is seen from then on.
@@ -38,17 +38,18 @@ pub trait Looks {
 
 /// What a connection is served through: it looks at versions, has imports accepted, and waits for the next version.
 pub trait Office: Looks {
-    /// Has an import accepted or refused, at a book that extends the one seen before. `Keeper` comes only where a fault of the
-    /// records was counted in the call. Where memory is wanting the import is accepted whole or not at all.
+    /// Has an import accepted or refused, at a book that extends the one seen before. `Keeper` comes only where a fault
+    /// of the records was counted in the call. Where memory is wanting the import is accepted whole or not at all.
     fn edit(&mut self, alloc: Global, command: Command, moment: u64) -> Result<Receipt, EditFault>
         requires { All IsEdit command.edits }
         ensures answered { result ≢ Err EditFault.Memory
             → (faults : ℕ) × (Self.tally self.new ≡ tally_after (Self.tally self.old) (edit_look faults))
             × IsAnswered Self.alone (Self.seen self.old) command moment faults result (Self.seen self.new) }
         ensures lost { result ≡ Err EditFault.Memory
-            → Counts MayBeEditLook (Self.tally self.old) (Self.tally self.new) × IsLook Self.alone (Self.seen self.old) (Self.seen self.new) };
+            → Counts MayBeEditLook (Self.tally self.old) (Self.tally self.new)
+            × IsLook Self.alone (Self.seen self.old) (Self.seen self.new) };
 
-    /// Waits until the book may have more batches than so many. It may end at any time.
+    /// Waits until there may be more batches than this number. It may end at any time.
     fn wait(&mut self, known: u64)
         ensures book { Self.seen self.new ≡ Self.seen self.old }
         ensures tally { Self.tally self.new ≡ tally_after (Self.tally self.old) (one_wait known) };

@@ -19,8 +19,8 @@ use std::alloc::Global;
 const MOST_REQUESTS: u32 = 1_000_000;
 
 /// Serves a connection to its end: reads requests, answers each at the version that the office has then, and writes the
-/// replies. An awaited edge is waited for, `turns` times at most. How it ended tells what became of the requests that its
-/// bytes are, what was written, and how often the office was looked at and waited.
+/// replies. An awaited edge is waited for, `turns` times at most. How it ended tells what became of the requests that
+/// its bytes are, what was written, and how often the office was looked at and waited.
 pub fn serve_conn<F: Office, L: Link, C: Clock>(
     alloc: Global,
     office: &mut F,
@@ -31,7 +31,8 @@ pub fn serve_conn<F: Office, L: Link, C: Clock>(
 ) -> End
     // Where the link tells its bytes, they are answered in turn, up to this end.
     ensures served { IfSome (L.left link.old) (λ bytes. Brings
-        (λ told. Ended result (setting_of side (C.tells clock.now) F.alone turns) bytes (L.left link.new) (F.seen office.old) told (F.seen office.new))
+        (λ told. Ended result (setting_of side (C.tells clock.now) F.alone turns) bytes (L.left link.new)
+        (F.seen office.old) told (F.seen office.new))
         (account (L.out link.old) (F.tally office.old)) (account (L.out link.new) (F.tally office.new))) }
 
     ensures reads { L.failed_reads link.new ≡ reads_at result (L.failed_reads link.old) }
@@ -63,10 +64,12 @@ fn serve_next<F: Office, L: Link, C: Clock>(
     turns: u32,
 ) -> Option<End>
     ensures on { result ≡ None → IfSome (followed_by intake.old (L.left link.old)) (λ rest. Brings
-        (λ told. GoesOn (setting_of routes.now (C.tells clock.now) F.alone turns) rest (followed_by intake.new (L.left link.new)) (F.seen office.old) told (F.seen office.new))
+        (λ told. GoesOn (setting_of routes.now (C.tells clock.now) F.alone turns) rest
+        (followed_by intake.new (L.left link.new)) (F.seen office.old) told (F.seen office.new))
         (account (L.out link.old) (F.tally office.old)) (account (L.out link.new) (F.tally office.new))) }
     ensures ended { IfSome result (λ end. IfSome (followed_by intake.old (L.left link.old)) (λ rest. Brings
-        (λ told. Finishes end (setting_of routes.now (C.tells clock.now) F.alone turns) rest (L.left link.new) (F.seen office.old) told (F.seen office.new))
+        (λ told. Finishes end (setting_of routes.now (C.tells clock.now) F.alone turns) rest (L.left link.new)
+        (F.seen office.old) told (F.seen office.new))
         (account (L.out link.old) (F.tally office.old)) (account (L.out link.new) (F.tally office.new)))) }
 
     ensures reads { L.failed_reads link.new ≡ reads_so_far result (L.failed_reads link.old) }
@@ -92,10 +95,12 @@ fn respond<F: Office, L: Link, C: Clock>(
 ) -> Option<End>
     ensures stays { result ≡ None → request.now.close ≡ false }
     ensures on { result ≡ None → Brings
-        (λ told. TakesTurn (setting_of routes.now (C.tells clock.now) F.alone turns) request.now (F.seen office.old) told (F.seen office.new))
+        (λ told. TakesTurn (setting_of routes.now (C.tells clock.now) F.alone turns) request.now
+        (F.seen office.old) told (F.seen office.new))
         (account (L.out link.old) (F.tally office.old)) (account (L.out link.new) (F.tally office.new)) }
     ensures ended { IfSome result (λ end. Brings
-        (λ told. Responds end (setting_of routes.now (C.tells clock.now) F.alone turns) request.now (F.seen office.old) told (F.seen office.new))
+        (λ told. Responds end (setting_of routes.now (C.tells clock.now) F.alone turns) request.now
+        (F.seen office.old) told (F.seen office.new))
         (account (L.out link.old) (F.tally office.old)) (account (L.out link.new) (F.tally office.new))) }
     ensures left { L.left link.new ≡ L.left link.old }
 

@@ -51,7 +51,8 @@ impl<R: RowStore> Looks for Solo<R> {
 
     ghost seen = { λ solo. solo.desk };
 
-    ghost tally = { λ solo. record { looks = solo.looks; waits = solo.waits; faults = 0; numbers = None; waited = None } };
+    ghost tally = { λ solo.
+        record { looks = solo.looks; waits = solo.waits; faults = 0; numbers = None; waited = None } };
 
     fn front(&mut self, _alloc: Global) -> Result<Arc<Front<R>>, AllocError> {
         let front = Arc::try_clone(self.desk.front())?;

@@ -1,9 +1,9 @@
 //! The turn of one request: looks at the office, waits for an awaited edge, and has an import accepted.
-ghost use Rattle.std.specs.Prelude.{◌≡◌, ◌≢◌, ℕ, Bool, Option, Err, IfOk, OnOk, OnErr, All, length};
-ghost use Rattle.alto_rules.specs.Rules.{IsEdit};
-ghost use Rattle.alto_book.specs.Book.{Extends};
+ghost use Rattle.std.specs.Prelude.{◌≡◌, ◌≢◌, ℕ, Bool, Option, Err, IfOk, OnOk, OnErr, All};
+ghost use Rattle.alto_edits.specs.Edits.{IsEdit};
+ghost use Rattle.alto_book.specs.Book.{Extends, number_of};
 ghost use Rattle.alto_book.specs.declared.fault.EditFault.TheVariants as fault;
-ghost use Rattle.alto_answers.specs.Answers.{answer_to, BringsEdits, HasBytes};
+ghost use Rattle.alto_answers.specs.Answers.{AnswersTo, BringsEdits, HasBytes};
 ghost use Rattle.alto_serve.specs.Looks.{IsAnswered, IsLook, IsVainLook};
 ghost use Rattle.alto_replies.specs.Reply.{IsReply, bytes_of};
 ghost use Rattle.alto_serve.specs.Told.{Counts, MayBeEditLook, one_look, edit_look, tally_after};
@@ -34,11 +34,13 @@ pub(crate) fn answered<F: Office, C: Clock>(
     turns: u32,
 ) -> Result<Vec<u8>, AllocError>
     ensures ok { IfOk result (λ bytes. Counts (λ told. (told.written ≡ bytes.items)
-        × TakesTurn (setting_of routes.now (C.tells clock.now) F.alone turns) request.now (F.seen office.old) told (F.seen office.new))
+        × TakesTurn (setting_of routes.now (C.tells clock.now) F.alone turns) request.now
+        (F.seen office.old) told (F.seen office.new))
         (F.tally office.old) (F.tally office.new)) }
     ensures book { Extends (F.seen office.new) (F.seen office.old) }
     ensures err { OnErr result (Counts
-        (λ told. IsBegun (setting_of routes.now (C.tells clock.now) F.alone turns) request.now (F.seen office.old) told (F.seen office.new))
+        (λ told. IsBegun (setting_of routes.now (C.tells clock.now) F.alone turns) request.now
+        (F.seen office.old) told (F.seen office.new))
         (F.tally office.old) (F.tally office.new)) }
 {
     let reply = take_turn(alloc, routes, office, clock, request, turns)?;
@@ -55,12 +57,14 @@ fn take_turn<F: Office, C: Clock>(
     turns: u32,
 ) -> Result<Reply, AllocError>
     ensures ok { IfOk result (λ reply. Counts (λ told. (told.written ≡ bytes_of reply request.now.close)
-        × TakesTurn (setting_of routes.now (C.tells clock.now) F.alone turns) request.now (F.seen office.old) told (F.seen office.new))
+        × TakesTurn (setting_of routes.now (C.tells clock.now) F.alone turns) request.now
+        (F.seen office.old) told (F.seen office.new))
         (F.tally office.old) (F.tally office.new)) }
     ensures book { Extends (F.seen office.new) (F.seen office.old) }
     ensures bytes { IfOk result IsReply }
     ensures begun { Counts
-        (λ told. IsBegun (setting_of routes.now (C.tells clock.now) F.alone turns) request.now (F.seen office.old) told (F.seen office.new))
+        (λ told. IsBegun (setting_of routes.now (C.tells clock.now) F.alone turns) request.now
+        (F.seen office.old) told (F.seen office.new))
         (F.tally office.old) (F.tally office.new) }
 {
     let answer = settled(alloc, routes, office, request, turns)?;
@@ -76,13 +80,15 @@ fn settled<F: Office>(
     turns: u32,
 ) -> Result<Answer, AllocError>
     ensures ok { IfOk result (λ answer. (time : Option ℕ) → Counts
-        (HasSettled (setting_of routes.now time F.alone turns) request.now (F.seen office.old) answer (F.seen office.new))
+        (HasSettled (setting_of routes.now time F.alone turns) request.now
+        (F.seen office.old) answer (F.seen office.new))
         (F.tally office.old) (F.tally office.new)) }
     ensures edits { IfOk result BringsEdits }
     ensures replies { IfOk result HasBytes }
     ensures look { IsLook F.alone (F.seen office.old) (F.seen office.new) }
     ensures err { OnErr result ((time : Option ℕ) → Counts
-        (λ told. IsBegun (setting_of routes.now time F.alone turns) request.now (F.seen office.old) told (F.seen office.new))
+        (λ told. IsBegun (setting_of routes.now time F.alone turns) request.now
+        (F.seen office.old) told (F.seen office.new))
         (F.tally office.old) (F.tally office.new)) }
 {
     let mut look = look_at(alloc, routes, office, request)?;
@@ -110,8 +116,8 @@ fn look_at<F: Office>(
     office: &mut F,
     request: &Request,
 ) -> Result<Look, AllocError>
-    ensures answer { IfOk result (λ look. look.answer ≡ answer_to request.now (F.seen office.new) routes.now) }
-    ensures number { IfOk result (λ look. look.number ≡ length (F.seen office.new).batches) }
+    ensures answer { IfOk result (λ look. AnswersTo request.now (F.seen office.new) routes.now look.answer) }
+    ensures number { IfOk result (λ look. look.number ≡ number_of (F.seen office.new)) }
     ensures edits { IfOk result (λ look. BringsEdits look.answer) }
     ensures replies { IfOk result (λ look. HasBytes look.answer) }
     ensures book { IsLook F.alone (F.seen office.old) (F.seen office.new) }
@@ -127,7 +133,8 @@ fn look_at<F: Office>(
     })
 }
 
-/// The reply to an answer that stands: an import is accepted or refused, and an edge that is still awaited comes too early.
+/// The reply to an answer that stands: an import is accepted or refused, and an edge that is still awaited comes too
+/// early.
 fn conclude<F: Office, C: Clock>(
     alloc: Global,
     office: &mut F,

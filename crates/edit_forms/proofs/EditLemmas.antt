@@ -1,55 +1,89 @@
 -- Edits so far, before those of the records that are left.
-use Rattle.std.proofs.Common.{◌≡◌, ℕ, suc, List, [], ◌∷◌, ◌++◌, drop, slice_get, Some, None, Result, Ok, Err, refl, ap, sym, append_assoc, append-nil}
+use Rattle.std.proofs.Common.{◌≡◌, ◌≤◌, ℕ, suc, List, [], ◌∷◌, ◌++◌, drop, length, slice_get, Some, None, Result, Ok, Err, refl, ap, sym, subst, append_assoc, append-nil, arith}
 use Rattle.csv.specs.Reading.{default_config, records, strip_bom}
-use Rattle.alto_rules.specs.declared.edit.Edit.{Edit}
+use Rattle.alto_edits.specs.declared.edit.Edit.{Edit}
 use Rattle.edit_forms.specs.declared.fault.FormFault.{FormFault}
-use Rattle.edit_forms.specs.Columns.{record_edit}
-use Rattle.edit_forms.specs.Csv.{csv_edits, without_header}
-use Rattle.edit_forms.specs.Edits.{at_least_one, before, records_edits}
+use Rattle.edit_forms.specs.declared.fault.FormFault.TheVariants.{Empty}
+use Rattle.edit_forms.specs.Csv.{CsvReads, without_header}
+use Rattle.edit_forms.specs.Edits.{BodyReads, RecordReads, RecordsRead, before, reads, fails}
 
 -- edits before those that follow, unless these have a fault
 abbrev pub after_edits : List Edit → Result (List Edit) FormFault → Result (List Edit) FormFault
 after_edits edits (Ok more) = Ok (edits ++ more)
 after_edits edits (Err fault) = Err fault
 
--- no edits change nothing
-pub after_edits-nil : (more : Result (List Edit) FormFault) → more ≡ after_edits [] more
+-- whatever the records that are left read as, all read as the edits so far and that
+pub record GoesOn (all : List (List (List ℕ))) (edits : List Edit) (row : ℕ) (left : List (List (List ℕ))) : Type 0 where
+  pub goes_on : (read : Result (List Edit) FormFault) → RecordsRead row left read → RecordsRead 1 all (after_edits edits read)
+
+-- at the start all are left
+after_edits-nil : (read : Result (List Edit) FormFault) → read ≡ after_edits [] read
 after_edits-nil (Ok more) = refl
 after_edits-nil (Err fault) = refl
 
+pub all_left : (all : List (List (List ℕ))) → GoesOn all [] 1 all
+all_left all = record { goes_on = λ read h. subst (RecordsRead 1 all) (after_edits-nil read) h }
+
 -- one edit more
-after_edits-before : (edits : List Edit) (edit : Edit) (more : Result (List Edit) FormFault)
-    → after_edits edits (before (Ok edit) more) ≡ after_edits (edits ++ edit ∷ []) more
-after_edits-before edits edit (Ok more) = ap Ok (sym (append_assoc edits (edit ∷ []) more))
-after_edits-before edits edit (Err fault) = refl
+after_edits-before : (edits : List Edit) (made : Edit) (more : Result (List Edit) FormFault)
+    → after_edits edits (before made more) ≡ after_edits (edits ++ made ∷ []) more
+after_edits-before edits made (Ok more) = ap Ok (sym (append_assoc edits (made ∷ []) more))
+after_edits-before edits made (Err fault) = refl
 
 -- a record that reads goes to the edits so far
-pub one_more : (edits : List Edit) (edit : Edit) (row next : ℕ) (records : List (List (List ℕ))) (fields : List (List ℕ))
-    → Some fields ≡ slice_get records 0 → record_edit row fields ≡ Ok edit → next ≡ suc row
-    → after_edits edits (records_edits row records) ≡ after_edits (edits ++ edit ∷ []) (records_edits next (drop 1 records))
-one_more edits edit row next [] fields at_hand reads numbered = cc at_hand
-one_more edits edit row next (record_ ∷ records) fields at_hand reads numbered =
-    let same : record_ ≡ fields = cc at_hand in
-    rw (same, reads, numbered) (after_edits-before edits edit (records_edits (suc row) records))
+pub one_more : (all : List (List (List ℕ))) (edits : List Edit) (made : Edit) (row next : ℕ) (left : List (List (List ℕ)))
+    (fields : List (List ℕ)) → Some fields ≡ slice_get left 0 → RecordReads row fields (Ok made) → next ≡ suc row
+    → GoesOn all edits row left → GoesOn all (edits ++ made ∷ []) next (drop 1 left)
+one_more all edits made row next [] fields at_hand read numbered on = cc at_hand
+one_more all edits made row next (found ∷ left) fields at_hand read numbered on =
+    let same : fields ≡ found = cc at_hand in
+    record {
+      goes_on = λ more h. subst (RecordsRead 1 all) (after_edits-before edits made more)
+          (on.goes_on (before made more) (reads made more (rw (← same) read) (rw (← numbered) h) refl));
+    }
 
 -- a record that doesn't read is the fault of all
-pub first_fault : (edits : List Edit) (fault : FormFault) (row : ℕ) (records : List (List (List ℕ))) (fields : List (List ℕ))
-    → Some fields ≡ slice_get records 0 → record_edit row fields ≡ Err fault
-    → after_edits edits (records_edits row records) ≡ Err fault
-first_fault edits fault row [] fields at_hand reads = cc at_hand
-first_fault edits fault row (record_ ∷ records) fields at_hand reads =
-    let same : record_ ≡ fields = cc at_hand in
-    rw (same, reads) refl
+pub first_fault : (all : List (List (List ℕ))) (edits : List Edit) (fault : FormFault) (row : ℕ) (left : List (List (List ℕ)))
+    (fields : List (List ℕ)) → Some fields ≡ slice_get left 0 → RecordReads row fields (Err fault)
+    → GoesOn all edits row left → RecordsRead 1 all (Err fault)
+first_fault all edits fault row [] fields at_hand read on = cc at_hand
+first_fault all edits fault row (found ∷ left) fields at_hand read on =
+    let same : fields ≡ found = cc at_hand in
+    on.goes_on (Err fault) (fails fault (rw (← same) read) refl)
 
 -- where no record is left the edits so far are all
-pub no_more : (edits : List Edit) (row : ℕ) (records : List (List (List ℕ)))
-    → slice_get records 0 ≡ None → after_edits edits (records_edits row records) ≡ Ok edits
-no_more edits row [] at_hand = ap Ok (append-nil edits)
-no_more edits row (record_ ∷ records) at_hand = cc at_hand
+pub no_more : (all : List (List (List ℕ))) (edits : List Edit) (row : ℕ) (left : List (List (List ℕ)))
+    → slice_get left 0 ≡ None → GoesOn all edits row left → RecordsRead 1 all (Ok edits)
+no_more all edits row [] at_hand on = subst (λ (made : List Edit). RecordsRead 1 all (Ok made)) (append-nil edits) (on.goes_on (Ok []) refl)
+no_more all edits row (found ∷ left) at_hand on = cc at_hand
 
--- the edits of a body, by its records past a header line
-pub csv_edits-from : (body : List ℕ) (all past : List (List (List ℕ))) (edits : Result (List Edit) FormFault)
-    → all ≡ records default_config (strip_bom body) → past ≡ without_header all → records_edits 1 past ≡ edits
-    → csv_edits body ≡ at_least_one edits
-unfolding csv_edits
-csv_edits-from body all past edits opened passed made = rw (← made, passed, opened) refl
+-- records with a fault are a body's
+pub body_fault : (records : List (List (List ℕ))) (fault : FormFault) → RecordsRead 1 records (Err fault) → BodyReads records (Err fault)
+body_fault [] fault h = cc h
+body_fault (first ∷ more) fault h = h
+
+-- records with an edit are a body's
+pub body_edits : (records : List (List (List ℕ))) (edits : List Edit) → RecordsRead 1 records (Ok edits) → 1 ≤ length edits
+    → BodyReads records (Ok edits)
+body_edits [] edits h some =
+    let same : edits ≡ [] = cc h in
+    absurd (omega (arith, ap length same, some))
+body_edits (first ∷ more) edits h some = h
+
+-- the same read has no edit and one
+some_edit : (made : Edit) (more : Result (List Edit) FormFault) → Ok [] ≡ before made more → ⊥
+some_edit made (Ok more) h = cc h
+some_edit made (Err fault) h = cc h
+
+-- only no records have no edit
+pub body_empty : (records : List (List (List ℕ))) → RecordsRead 1 records (Ok []) → BodyReads records (Err Empty)
+body_empty [] h = refl
+body_empty (first ∷ more) (reads made rest record_ behind e) = absurd (some_edit made rest e)
+body_empty (first ∷ more) (fails fault record_ e) = cc e
+
+-- what a CSV body reads as, by its records past a header line
+pub csv_body : (body : List ℕ) (all past : List (List (List ℕ))) (read : Result (List Edit) FormFault)
+    → all ≡ records default_config (strip_bom body) → past ≡ without_header all → BodyReads past read
+    → CsvReads body read
+unfolding CsvReads
+csv_body body all past read opened passed h = rw (← opened, ← passed) h

@@ -1,7 +1,7 @@
 -- Items that are lists of texts, as the columns of a record.
 use Rattle.std.proofs.Common.{◌≡◌, ◌≢◌, ◌<◌, ◌≤◌, ◌+◌, ◌-◌, ◌⊎◌, inl, inr, ℕ, zero, suc, List, [], ◌∷◌, ◌++◌, length, drop, slice_get, get_or, add-one, Option, Some, None, Result, Ok, Err, IsErr, refl, ap, sym, replicate, arith}
 use Rattle.std.proofs.Math.ListN.{length-append}
-use Rattle.std.proofs.lemmas.List.{length-replicate}
+use Rattle.std.proofs.lemmas.List.{drop_all, length-replicate}
 use Rattle.std.specs.Option.{option_map_or}
 use Rattle.serde_json.specs.Find.{as_str}
 use Rattle.json_tree.specs.Tree.{data_of, items_data}
@@ -9,13 +9,12 @@ use Rattle.json_tree.specs.Whole.{whole_value}
 use Rattle.json_tree.specs.declared.fault.TreeFault.{TreeFault}
 use Rattle.json_tree.specs.declared.tree.Tree.{Tree}
 use Rattle.serde_json.specs.Data.{Data}
-use Rattle.alto_rules.specs.declared.edit.Edit.{Edit}
+use Rattle.alto_edits.specs.declared.edit.Edit.{Edit}
 use Rattle.edit_forms.specs.declared.fault.FormFault.{FormFault}
-use Rattle.edit_forms.specs.Columns.{record_edit}
 use Rattle.edit_forms.specs.declared.fault.FormFault.TheVariants.{Syntax}
-use Rattle.edit_forms.specs.Edits.{at_least_one, records_edits}
-use Rattle.edit_forms.proofs.EditLemmas.{after_edits, one_more}
-use Rattle.edit_forms.specs.Json.{filled_up, item_record, item_records, json_edits, listed_edits, text_before, texts_in, texts_record}
+use Rattle.edit_forms.specs.Edits.{BodyReads, RecordReads, RecordsRead}
+use Rattle.edit_forms.proofs.EditLemmas.{GoesOn, first_fault, no_more, one_more}
+use Rattle.edit_forms.specs.Json.{filled_up, item_record, item_records, JsonReads, listed_edits, text_before, texts_in, texts_record}
 
 -- the text in this place, which is empty past the last
 abbrev pub column_at : ℕ → List Tree → Option (List ℕ)
@@ -93,31 +92,51 @@ records_left (first ∷ trees) zero tree h is =
     rw same refl
 records_left (first ∷ trees) (suc place) tree h is = records_left trees place tree (omega arith) is
 
+-- the items that are left, as `GoesOn` says it of records
+abbrev pub ItemsGoOn : List Tree → List Edit → ℕ → Type 0
+ItemsGoOn trees edits place = GoesOn (item_records (items_data trees)) edits (place + 1) (item_records (items_data (drop place trees)))
+
 -- an item that reads goes to the edits so far
-pub one_item_more : (edits : List Edit) (edit : Edit) (trees : List Tree) (place : ℕ) (tree : Tree)
-    → place < length trees → tree ≡ get_or trees place tree → record_edit (place + 1) (item_record (data_of tree)) ≡ Ok edit
-    → after_edits edits (records_edits (place + 1) (item_records (items_data (drop place trees))))
-    ≡ after_edits (edits ++ edit ∷ []) (records_edits (place + 1 + 1) (item_records (items_data (drop (place + 1) trees))))
-one_item_more edits edit trees place tree h is reads =
-    rw (records_left trees place tree h is, add-one place)
-    (one_more edits edit (suc place) (suc place + 1) (item_record (data_of tree) ∷ item_records (items_data (drop (suc place) trees)))
-    (item_record (data_of tree)) refl (rw (add-one place) at reads) (add-one (suc place)))
+pub one_item_more : (edits : List Edit) (made : Edit) (trees : List Tree) (place : ℕ) (tree : Tree)
+    → place < length trees → tree ≡ get_or trees place tree → RecordReads (place + 1) (item_record (data_of tree)) (Ok made)
+    → ItemsGoOn trees edits place → ItemsGoOn trees (edits ++ made ∷ []) (place + 1)
+one_item_more edits made trees place tree h is read on =
+    let next = records_left trees place tree h is in
+    rw (add-one place, add-one (suc place)) (one_more (item_records (items_data trees)) edits made (suc place) (suc (suc place))
+    (item_record (data_of tree) ∷ item_records (items_data (drop (suc place) trees)))
+    (item_record (data_of tree)) refl (rw (add-one place) at read) refl (rw (next, add-one place) at on))
 
--- a body that writes no tree reads as no edits
-pub json_edits-no_value : (body : List ℕ) (value : Result Data TreeFault) → whole_value body ≡ value → IsErr value
-    → json_edits body ≡ Err Syntax
-unfolding json_edits
-json_edits-no_value body (Ok d) written err = cc err
-json_edits-no_value body (Err fault) written err = rw written refl
+-- an item that doesn't read is the fault of all
+pub item_fault : (edits : List Edit) (fault : FormFault) (trees : List Tree) (place : ℕ) (tree : Tree)
+    → place < length trees → tree ≡ get_or trees place tree → RecordReads (place + 1) (item_record (data_of tree)) (Err fault)
+    → ItemsGoOn trees edits place → RecordsRead 1 (item_records (items_data trees)) (Err fault)
+item_fault edits fault trees place tree h is read on =
+    let next = records_left trees place tree h is in
+    first_fault (item_records (items_data trees)) edits fault (place + 1)
+    (item_record (data_of tree) ∷ item_records (items_data (drop (suc place) trees)))
+    (item_record (data_of tree)) refl read (rw next at on)
 
--- a tree that has no list of edits reads as no edits
-pub json_edits-no_list : (body : List ℕ) (d : Data) → whole_value body ≡ Ok d → None ≡ listed_edits d → json_edits body ≡ Err Syntax
-unfolding json_edits
-json_edits-no_list body d written listed = rw (written, ← listed) refl
+-- where no item is left the edits so far are all
+pub no_more_items : (edits : List Edit) (trees : List Tree) (place : ℕ) → length trees ≤ place → ItemsGoOn trees edits place
+    → RecordsRead 1 (item_records (items_data trees)) (Ok edits)
+no_more_items edits trees place past on =
+    no_more (item_records (items_data trees)) edits (place + 1) [] refl (rw (drop_all place trees past) at on)
 
--- the edits of a body, by the items of its list of edits
-pub json_edits-items : (body : List ℕ) (d : Data) (trees : List Tree) (edits : Result (List Edit) FormFault)
-    → whole_value body ≡ Ok d → Some (items_data trees) ≡ listed_edits d → records_edits 1 (item_records (items_data trees)) ≡ edits
-    → json_edits body ≡ at_least_one edits
-unfolding json_edits
-json_edits-items body d trees edits written listed made = rw (written, ← listed, made) refl
+-- a body that writes no tree is invalid
+pub no_value : (body : List ℕ) (value : Result Data TreeFault) → whole_value body ≡ value → IsErr value
+    → JsonReads body (Err Syntax)
+unfolding JsonReads
+no_value body (Ok d) written err = cc err
+no_value body (Err fault) written err = rw written refl
+
+-- a tree that has no list of edits is invalid
+pub no_list : (body : List ℕ) (d : Data) → whole_value body ≡ Ok d → None ≡ listed_edits d → JsonReads body (Err Syntax)
+unfolding JsonReads
+no_list body d written listed = rw (written, ← listed) refl
+
+-- what a JSON body reads as, by the items of its list of edits
+pub json_body : (body : List ℕ) (d : Data) (trees : List Tree) (read : Result (List Edit) FormFault)
+    → whole_value body ≡ Ok d → Some (items_data trees) ≡ listed_edits d → BodyReads (item_records (items_data trees)) read
+    → JsonReads body read
+unfolding JsonReads
+json_body body d trees read written listed h = rw (written, ← listed) h

@@ -1,5 +1,10 @@
+pub mod AmountLemmas
+pub mod AneLemmas
+pub mod AnswerLemmas
 pub mod ColumnLemmas
-pub mod RecordLemmas
-pub mod FieldLemmas
 pub mod EditLemmas
+pub mod FieldLemmas
 pub mod ItemLemmas
+pub mod RecordLemmas
+pub mod UniqueLemmas
+pub mod ValueLemmas

@@ -2,10 +2,10 @@
 use Rattle.std.specs.Prelude.{ℕ, List, [], ◌∷◌, Result, if◌then◌else◌, codes}
 use Rattle.std.specs.Cmp.Lexicographic.{pointwise}
 use Rattle.csv.specs.Reading.{default_config, records, strip_bom}
-use Rattle.alto_rules.specs.declared.edit.Edit.{Edit}
+use Rattle.alto_edits.specs.declared.edit.Edit.{Edit}
 use Rattle.edit_forms.specs.declared.fault.FormFault.{FormFault}
-use Rattle.edit_forms.specs.Columns.{same_text}
-use Rattle.edit_forms.specs.Edits.{body_edits}
+use Rattle.edit_forms.specs.Edits.{BodyReads}
+use Rattle.edit_forms.specs.Operations.{same_text}
 
 -- the fields of a header line
 abbrev pub header : List (List ℕ)
@@ -16,6 +16,6 @@ abbrev pub without_header : List (List (List ℕ)) → List (List (List ℕ))
 without_header [] = []
 without_header (first ∷ more) = if pointwise same_text first header then more else first ∷ more
 
--- the edits of a body: those of its records, which the csv crate reads, past a byte order mark and a header line
-unfoldable pub csv_edits : List ℕ → Result (List Edit) FormFault
-csv_edits body = body_edits (without_header (records default_config (strip_bom body)))
+-- what a body reads as: what its records do, which the csv crate reads, past a byte order mark and a header line
+unfoldable pub CsvReads : List ℕ → Result (List Edit) FormFault → Type 0
+CsvReads body read = BodyReads (without_header (records default_config (strip_bom body))) read

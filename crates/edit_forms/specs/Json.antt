@@ -1,13 +1,13 @@
 -- What a JSON body (RFC 8259) reads as: the edits of the items of its member `edits`.
-use Rattle.std.specs.Prelude.{ℕ, ◌-◌, List, [], ◌∷◌, ◌++◌, length, replicate, Option, Some, None, option_and_then, Result, Ok, Err, codes}
+use Rattle.std.specs.Prelude.{◌≡◌, ℕ, ◌-◌, List, [], ◌∷◌, ◌++◌, length, replicate, Option, Some, None, option_and_then, Result, Ok, Err, codes}
 use Rattle.serde_json.specs.Data.{Data, Items, no_items, item}
 use Rattle.serde_json.specs.Find.{as_array, as_str, get}
 use Rattle.json_tree.specs.Whole.{whole_value}
 use Rattle.json_tree.specs.declared.fault.TreeFault.{TreeFault}
-use Rattle.alto_rules.specs.declared.edit.Edit.{Edit}
+use Rattle.alto_edits.specs.declared.edit.Edit.{Edit}
 use Rattle.edit_forms.specs.declared.fault.FormFault.{FormFault}
 use Rattle.edit_forms.specs.declared.fault.FormFault.TheVariants.{Syntax}
-use Rattle.edit_forms.specs.Edits.{body_edits}
+use Rattle.edit_forms.specs.Edits.{BodyReads}
 
 -- a text before others, if all of them are texts
 abbrev pub text_before : Option (List ℕ) → Option (List (List ℕ)) → Option (List (List ℕ))
@@ -44,16 +44,16 @@ item_records (item d ds) = item_record d ∷ item_records ds
 abbrev pub listed_edits : Data → Option Items
 listed_edits d = option_and_then as_array (get (codes "edits") d)
 
--- the edits of items, if a body has a list of them
-abbrev pub items_edits : Option Items → Result (List Edit) FormFault
-items_edits None = Err Syntax
-items_edits (Some items) = body_edits (item_records items)
+-- what items read as, if a body has a list of them
+abbrev pub ItemsRead : Option Items → Result (List Edit) FormFault → Type 0
+ItemsRead None read = read ≡ Err Syntax
+ItemsRead (Some items) read = BodyReads (item_records items) read
 
--- the edits of a value, if a text has one whose numbers are whole
-abbrev pub value_edits : Result Data TreeFault → Result (List Edit) FormFault
-value_edits (Err fault) = Err Syntax
-value_edits (Ok d) = items_edits (listed_edits d)
+-- what a value reads as, if a text has one whose numbers are whole
+abbrev pub ValueReads : Result Data TreeFault → Result (List Edit) FormFault → Type 0
+ValueReads (Err fault) read = read ≡ Err Syntax
+ValueReads (Ok d) read = ItemsRead (listed_edits d) read
 
--- the edits of a body: those of the items of its member `edits`
-unfoldable pub json_edits : List ℕ → Result (List Edit) FormFault
-json_edits body = value_edits (whole_value body)
+-- what a body reads as: what the items of its member `edits` do
+unfoldable pub JsonReads : List ℕ → Result (List Edit) FormFault → Type 0
+JsonReads body read = ValueReads (whole_value body) read

@@ -4,4 +4,6 @@ pub mod Csv
 pub mod Edits
 pub mod Faults
 pub mod Json
+pub mod Operations
 pub mod Records
+pub mod Table

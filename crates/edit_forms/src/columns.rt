@@ -1,17 +1,19 @@
-ghost use Rattle.std.specs.Prelude.{◌≡◌, ◌≢◌, ◌==◌, ◌≤◌, ◌<◌, ◌+◌, ◌∷◌, [], IfOk, IfErr, IfSome, length, map, not};
-ghost use Rattle.std.specs.List.{position_from};
+ghost use Rattle.std.specs.Prelude.{◌≡◌, ◌≢◌, IfOk, IfErr, Ok, Err};
 ghost use Rattle.std.specs.Cmp.Lexicographic.{pointwise};
-ghost use Rattle.alto_names.specs.Name.{named};
-ghost use Rattle.alto_rules.specs.Rules.{IsEdit};
-ghost use Rattle.edit_forms.specs.Columns.{name_in, nothing_in, edit_in, columns_edit, record_edit, same_text, texts_of};
-ghost use Rattle.edit_forms.specs.Csv.{header};
+ghost use Rattle.alto_edits.specs.Edits.{IsEdit};
 ghost use Rattle.edit_forms.specs.Answers.{IsAnswer};
+ghost use Rattle.edit_forms.specs.Columns.{texts_of};
+ghost use Rattle.edit_forms.specs.Csv.{header};
+ghost use Rattle.edit_forms.specs.Edits.{RecordReads};
+ghost use Rattle.edit_forms.specs.Operations.{same_text};
+ghost use Rattle.edit_forms.specs.Table.{ColumnsRead};
 
 use crate::fault::FormFault;
 use crate::operation::Operation;
-use alto_names::{Kind, Label, NameFault, NetKind, PidKind};
-use alto_rules::Edit;
-use std::alloc::Global;
+use crate::values::name_in;
+use alto_edits::Edit;
+use alto_names::NetKind;
+use std::alloc::{AllocError, AllocFailed, Global};
 
 /// Why columns read as no edit.
 #[derive(Clone, Copy, Debug, PartialEq, Eq)]
@@ -20,6 +22,28 @@ pub(crate) enum ColumnFault {
     Bad(u8),
     /// The memory couldn't be had.
     Memory,
+}
+
+impl From<AllocError> for ColumnFault {
+    ghost use Rattle.std.specs.Prelude.{◌≡◌};
+    ghost use Rattle.edit_forms.specs.declared.columns.ColumnFault.TheVariants.{Memory};
+
+    ghost from_gives = { λ _ fault. fault ≡ Memory };
+
+    fn from(_: AllocError) -> ColumnFault {
+        ColumnFault::Memory
+    }
+}
+
+impl<T: Drop> From<AllocFailed<T>> for ColumnFault {
+    ghost use Rattle.std.specs.Prelude.{◌≡◌};
+    ghost use Rattle.edit_forms.specs.declared.columns.ColumnFault.TheVariants.{Memory};
+
+    ghost from_gives = { λ _ fault. fault ≡ Memory };
+
+    fn from(_: AllocFailed<T>) -> ColumnFault {
+        ColumnFault::Memory
+    }
 }
 
 /// The six columns of a record, in order.
@@ -36,8 +60,9 @@ pub(crate) struct Columns<'a> {
 impl Columns<'_> {
     /// The edit that the columns of this row make.
     pub(crate) fn row_edit(&self, alloc: Global, row: u64) -> Result<Edit, FormFault>
-        ensures ok { IfOk result (λ edit. record_edit row (texts_of self.now) ≡ Ok edit) }
-        ensures err { IfErr result (λ fault. fault ≢ FormFault.Memory → record_edit row (texts_of self.now) ≡ Err fault) }
+        ensures ok { IfOk result (λ edit. RecordReads row (texts_of self.now) (Ok edit)) }
+        ensures err { IfErr result (λ fault. fault ≢ FormFault.Memory
+            → RecordReads row (texts_of self.now) (Err fault)) }
         ensures edit { IfOk result IsEdit }
     {
         match self.edit(alloc) {
@@ -61,65 +86,14 @@ impl Columns<'_> {
 
     /// The edit that the columns make.
     fn edit(&self, alloc: Global) -> Result<Edit, ColumnFault>
-        ensures answer { IsAnswer result (columns_edit self.now.op.now self.now.net.now
-            self.now.a.now self.now.b.now self.now.c.now self.now.d.now) }
+        ensures answer { IsAnswer (ColumnsRead self.now.op.now self.now.net.now
+            self.now.a.now self.now.b.now self.now.c.now self.now.d.now) result }
         ensures edit { IfOk result IsEdit }
     {
-        match Operation::read(self.op) {
-            Some(operation) => self.edit_of(alloc, operation),
-            None => Err(ColumnFault::Bad(1)),
-        }
+        let Some(operation) = Operation::read(self.op) else {
+            return Err(ColumnFault::Bad(1));
+        };
+        let net = name_in::<NetKind>(alloc, 2, self.net)?;
+        self.edit_of(alloc, operation, net)
     }
-
-    /// The edit of this operation that the columns make.
-    fn edit_of(&self, alloc: Global, operation: Operation) -> Result<Edit, ColumnFault>
-        ensures answer { IsAnswer result (edit_in operation self.now.net.now
-            self.now.a.now self.now.b.now self.now.c.now self.now.d.now) }
-        ensures edit { IfOk result IsEdit }
-    {
-        match operation {
-            Operation::NetAdd => {
-                let net = name_in::<NetKind>(alloc, 2, self.net)?;
-                nothing_in(3, &[self.a, self.b, self.c, self.d], Edit::NetAdd { net })
-            }
-            Operation::PidAdd => {
-                let net = name_in::<NetKind>(alloc, 2, self.net)?;
-                let pid = name_in::<PidKind>(alloc, 3, self.a)?;
-                nothing_in(4, &[self.b, self.c, self.d], Edit::PidAdd { net, pid })
-            }
-        }
-    }
-}
-
-/// The name in the column of this number.
-#[tactic(auto, using(crate::proofs::ColumnLemmas::named_again))]
-fn name_in<K: Kind>(alloc: Global, column: u8, text: &[u8]) -> Result<Label<K>, ColumnFault>
-    ensures answer { IsAnswer result (name_in column (named K.alphabet K.LONGEST text.now)) }
-    ensures name { IfOk result (λ name. named K.alphabet K.LONGEST name ≡ Ok name) }
-{
-    match Label::read(alloc, text) {
-        Ok(name) => Ok(name),
-        Err(NameFault::Memory) => Err(ColumnFault::Memory),
-        Err(_) => Err(ColumnFault::Bad(column)),
-    }
-}
-
-/// What was read, if these columns, the first of which has this number, hold nothing.
-fn nothing_in(first: u8, texts: &[&[u8]], read: Edit) -> Result<Edit, ColumnFault>
-    requires { first + length texts.now ≤ 255 }
-    ensures answer { IsAnswer result (nothing_in first (map (λ text. text.now) texts.now) read) }
-    ensures same { IfOk result (λ edit. edit ≡ read) }
-{
-    match filled_place(texts) {
-        Some(place) => Err(ColumnFault::Bad(first + place as u8)),
-        None => Ok(read),
-    }
-}
-
-/// The place of the first text that isn't empty.
-fn filled_place(texts: &[&[u8]]) -> Option<usize>
-    ensures place { result ≡ position_from (λ text. not (length text.now == 0)) 0 texts.now }
-    ensures within { IfSome result (λ place. place < length texts.now) }
-{
-    texts.iter().position(|text| !text.is_empty())
 }

@@ -1,27 +1,26 @@
-ghost use Rattle.std.specs.Prelude.{◌≡◌, ◌≢◌, List, Ok, Err, IfOk, IfErr, All};
+ghost use Rattle.std.specs.Prelude.{◌≢◌, Ok, Err, IfOk, IfErr, All};
 ghost use Rattle.csv.specs.Records.{fields_of};
-ghost use Rattle.alto_rules.specs.Rules.{IsEdit};
-ghost use Rattle.edit_forms.specs.Columns.{record_edit};
-ghost use Rattle.edit_forms.specs.Csv.{csv_edits};
-ghost use Rattle.edit_forms.specs.Edits.{records_edits};
+ghost use Rattle.alto_edits.specs.Edits.{IsEdit};
+ghost use Rattle.edit_forms.specs.Csv.{CsvReads};
+ghost use Rattle.edit_forms.specs.Edits.{RecordReads, RecordsRead};
 
 use crate::edits::at_least_one;
 use crate::fault::FormFault;
 use crate::records::{Records, columns_of};
-use alto_rules::Edit;
+use alto_edits::Edit;
 use csv::ByteRecord;
 use std::alloc::Global;
 
-/// Reads a CSV body (RFC 4180): the edits of its records, past a byte order mark and a header line. The time is linear in
-/// the body.
+/// Reads a CSV body (RFC 4180): the edits of its records, past a byte order mark and a header line. The names and
+/// values of the edits are in the ranges of their columns. The time is linear in the body.
 ///
 /// # Errors
 ///
-/// The first fault in the order of rows and columns, a record that hasn't six fields being `BadRecord`; `Empty` where there
-/// is no record.
+/// The first fault in the order of rows and columns, a record that hasn't six fields being `BadRecord`; `Empty` where
+/// there is no record.
 pub fn read_csv(alloc: Global, body: &[u8]) -> Result<Vec<Edit>, FormFault>
-    ensures ok { IfOk result (λ edits. csv_edits body.now ≡ Ok edits.items) }
-    ensures err { IfErr result (λ fault. fault ≢ FormFault.Memory → csv_edits body.now ≡ Err fault) }
+    ensures ok { IfOk result (λ edits. CsvReads body.now (Ok edits.items)) }
+    ensures err { IfErr result (λ fault. fault ≢ FormFault.Memory → CsvReads body.now (Err fault)) }
     ensures edits { IfOk result (λ edits. All IsEdit edits.items) }
 {
     let mut records = Records::open(alloc, body)?;
@@ -31,8 +30,8 @@ pub fn read_csv(alloc: Global, body: &[u8]) -> Result<Vec<Edit>, FormFault>
 
 /// The edits of the records that are left, which are numbered from 1.
 fn edits_of(alloc: Global, records: &mut Records<'_>) -> Result<Vec<Edit>, FormFault>
-    ensures ok { IfOk result (λ edits. records_edits 1 records.old ≡ Ok edits.items) }
-    ensures err { IfErr result (λ fault. fault ≢ FormFault.Memory → records_edits 1 records.old ≡ Err fault) }
+    ensures ok { IfOk result (λ edits. RecordsRead 1 records.old (Ok edits.items)) }
+    ensures err { IfErr result (λ fault. fault ≢ FormFault.Memory → RecordsRead 1 records.old (Err fault)) }
     ensures edits { IfOk result (λ edits. All IsEdit edits.items) }
 {
     let mut edits = Vec::new(alloc);
@@ -46,8 +45,9 @@ fn edits_of(alloc: Global, records: &mut Records<'_>) -> Result<Vec<Edit>, FormF
 
 /// The edit of the record of this number.
 fn edit_of(alloc: Global, row: u64, fields: &ByteRecord) -> Result<Edit, FormFault>
-    ensures ok { IfOk result (λ edit. record_edit row (fields_of fields.now) ≡ Ok edit) }
-    ensures err { IfErr result (λ fault. fault ≢ FormFault.Memory → record_edit row (fields_of fields.now) ≡ Err fault) }
+    ensures ok { IfOk result (λ edit. RecordReads row (fields_of fields.now) (Ok edit)) }
+    ensures err { IfErr result (λ fault. fault ≢ FormFault.Memory
+        → RecordReads row (fields_of fields.now) (Err fault)) }
     ensures edit { IfOk result IsEdit }
 {
     match columns_of(fields) {

@@ -3,29 +3,31 @@ ghost use Rattle.std.specs.Option.{option_map_or};
 ghost use Rattle.serde_json.specs.Find.{as_array, as_str};
 ghost use Rattle.json_tree.specs.Tree.{data_of, items_data};
 ghost use Rattle.json_tree.specs.Whole.{whole_value};
-ghost use Rattle.alto_rules.specs.Rules.{IsEdit};
-ghost use Rattle.edit_forms.specs.Columns.{record_edit, texts_of};
-ghost use Rattle.edit_forms.specs.Edits.{records_edits};
-ghost use Rattle.edit_forms.specs.Json.{item_record, item_records, json_edits, listed_edits, texts_in, texts_record};
+ghost use Rattle.alto_edits.specs.Edits.{IsEdit};
+ghost use Rattle.edit_forms.specs.Columns.{texts_of};
+ghost use Rattle.edit_forms.specs.Edits.{RecordReads, RecordsRead};
+ghost use Rattle.edit_forms.specs.Json.{item_record, item_records, JsonReads, listed_edits, texts_in, texts_record};
 
 use crate::columns::Columns;
 use crate::edits::at_least_one;
 use crate::fault::FormFault;
-use alto_rules::Edit;
+use alto_edits::Edit;
 use json_tree::{Tree, TreeFault, read};
 use std::alloc::Global;
 
-/// Reads a JSON body (RFC 8259): the edits of the items of its member `edits`, each a list of 2 to 6 texts, which are the
-/// columns in order. Those left out at the end are empty. Other members are ignored. The time is linear in the body, but
-/// for the order of the members of its objects.
+/// Reads a JSON body (RFC 8259): the edits of the items of its member `edits`, each a list of 2 to 6 texts, which are
+/// the columns in order. Those left out at the end are empty. Other members are ignored. The names and values of the
+/// edits are in the ranges of their columns. The time is linear in the body, but for the order of the members of its
+/// objects.
 ///
 /// # Errors
 ///
-/// `Syntax` where the body doesn't read as a tree, or isn't an object whose member `edits` is a list; else the first fault
-/// in the order of items and columns, an item that isn't such a list being `BadRecord`; `Empty` where there is no item.
+/// `Syntax` where the body doesn't read as a tree, or isn't an object whose member `edits` is a list; else the first
+/// fault in the order of items and columns, an item that isn't such a list being `BadRecord`; `Empty` where there is
+/// no item.
 pub fn read_json(alloc: Global, body: &[u8]) -> Result<Vec<Edit>, FormFault>
-    ensures ok { IfOk result (λ edits. json_edits body.now ≡ Ok edits.items) }
-    ensures err { IfErr result (λ fault. fault ≢ FormFault.Memory → json_edits body.now ≡ Err fault) }
+    ensures ok { IfOk result (λ edits. JsonReads body.now (Ok edits.items)) }
+    ensures err { IfErr result (λ fault. fault ≢ FormFault.Memory → JsonReads body.now (Err fault)) }
     ensures edits { IfOk result (λ edits. All IsEdit edits.items) }
 {
     let tree = tree_of(alloc, body)?;
@@ -59,9 +61,9 @@ fn listed(body: &Tree) -> Option<&[Tree]>
 
 /// The edits of the items, which are numbered from 1.
 fn edits_of(alloc: Global, items: &[Tree]) -> Result<Vec<Edit>, FormFault>
-    ensures ok { IfOk result (λ edits. records_edits 1 (item_records (items_data items.now)) ≡ Ok edits.items) }
+    ensures ok { IfOk result (λ edits. RecordsRead 1 (item_records (items_data items.now)) (Ok edits.items)) }
     ensures err { IfErr result (λ fault. fault ≢ FormFault.Memory
-        → records_edits 1 (item_records (items_data items.now)) ≡ Err fault) }
+        → RecordsRead 1 (item_records (items_data items.now)) (Err fault)) }
     ensures edits { IfOk result (λ edits. All IsEdit edits.items) }
 {
     let mut edits = Vec::new(alloc);
@@ -74,9 +76,9 @@ fn edits_of(alloc: Global, items: &[Tree]) -> Result<Vec<Edit>, FormFault>
 
 /// The edit of the item of this number.
 fn edit_of(alloc: Global, row: u64, item: &Tree) -> Result<Edit, FormFault>
-    ensures ok { IfOk result (λ edit. record_edit row (item_record (data_of item.now)) ≡ Ok edit) }
+    ensures ok { IfOk result (λ edit. RecordReads row (item_record (data_of item.now)) (Ok edit)) }
     ensures err { IfErr result (λ fault. fault ≢ FormFault.Memory
-        → record_edit row (item_record (data_of item.now)) ≡ Err fault) }
+        → RecordReads row (item_record (data_of item.now)) (Err fault)) }
     ensures edit { IfOk result IsEdit }
 {
     match columns_of(item) {

@@ -2,8 +2,9 @@ ghost use Rattle.std.specs.Prelude.{◌≡◌, ◌≢◌, ◌<◌, Some, IfOk, I
 ghost use Rattle.std.specs.Cmp.Lexicographic.{pointwise};
 ghost use Rattle.csv.specs.Reading.{default_config, records, strip_bom};
 ghost use Rattle.csv.specs.Records.{field_at, fields_of};
-ghost use Rattle.edit_forms.specs.Columns.{same_text, texts_of};
+ghost use Rattle.edit_forms.specs.Columns.{texts_of};
 ghost use Rattle.edit_forms.specs.Csv.{header, without_header};
+ghost use Rattle.edit_forms.specs.Operations.{same_text};
 ghost use Rattle.edit_forms.specs.Records.{IsPlain, from_here, unread};
 
 use crate::columns::Columns;

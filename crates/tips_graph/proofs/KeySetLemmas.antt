@@ -40,12 +40,12 @@ abbrev pub ArePast : Key → List Key → Type 0
 ArePast low keys = AllByRecursion (λ key. key_cmp low key ≡ Less) keys
 
 -- what is after a key is after a lesser one
-past_lesser : (low high : Key) → key_cmp low high ≡ Less → (keys : List Key) → ArePast high keys → ArePast low keys
+pub past_lesser : (low high : Key) → key_cmp low high ≡ Less → (keys : List Key) → ArePast high keys → ArePast low keys
 past_lesser low high less [] past = past
 past_lesser low high less (key ∷ keys) past = (key_cmp_total.trans low high key less past.0, past_lesser low high less keys past.1)
 
 -- and stays after it when a later key is inserted
-past_inserted : (low key : Key) (keys : List Key) → key_cmp low key ≡ Less → ArePast low keys → ArePast low (insert_key key_cmp keys key)
+pub past_inserted : (low key : Key) (keys : List Key) → key_cmp low key ≡ Less → ArePast low keys → ArePast low (insert_key key_cmp keys key)
 past_inserted low key [] less past = (less, tt)
 past_inserted low key (first ∷ keys) less past = by (past_inserted low key keys less past.1) (key_cmp key first) refl
   where
@@ -55,7 +55,7 @@ past_inserted low key (first ∷ keys) less past = by (past_inserted low key key
     by below Greater e = rw e (past.0, below)
 
 -- keys with a first that they are after
-sorted_more : (key : Key) (keys : List Key) → ArePast key keys → IsStrictlySortedBy key_cmp keys → IsStrictlySortedBy key_cmp (key ∷ keys)
+pub sorted_more : (key : Key) (keys : List Key) → ArePast key keys → IsStrictlySortedBy key_cmp keys → IsStrictlySortedBy key_cmp (key ∷ keys)
 unfolding IsStrictlySortedBy
 sorted_more key keys past sorted = (past, sorted)
 
@@ -69,11 +69,13 @@ sorted_inserted (first ∷ keys) key sorted = by (sorted_inserted keys key (sort
     by below Equal e = rw e sorted
     by below Greater e = rw e (sorted_more first (insert_key key_cmp keys key) (past_inserted first key keys (greater_back key first e) (sorted_head key_cmp first keys sorted)) below)
 
+-- and when any number of keys are inserted
 sorted_fold : (set keys : List Key) → IsStrictlySortedBy key_cmp set → IsStrictlySortedBy key_cmp (fold (insert_key key_cmp) set keys)
 sorted_fold set [] sorted = sorted
 sorted_fold set (key ∷ keys) sorted = sorted_fold (insert_key key_cmp set key) keys (sorted_inserted set key sorted)
 
-none_sorted : IsStrictlySortedBy key_cmp []
+-- no keys are in order
+pub none_sorted : IsStrictlySortedBy key_cmp []
 unfolding IsStrictlySortedBy
 none_sorted = tt
 
@@ -103,6 +105,7 @@ before_middle [] key back sorted = tt
 before_middle (first ∷ front) key back sorted =
     (past_middle first front key back (sorted_head key_cmp first (front ++ key ∷ back) sorted), before_middle front key back (sorted_tail key_cmp first (front ++ key ∷ back) sorted))
 
+-- keys in order that are inserted after others go to their end
 fold_sorted : (front back : List Key) → IsStrictlySortedBy key_cmp (front ++ back) → fold (insert_key key_cmp) front back ≡ front ++ back
 fold_sorted front [] sorted = sym (append-nil front)
 fold_sorted front (key ∷ back) sorted =
@@ -125,6 +128,7 @@ key_set-key_set keys = key_set-sorted (key_set keys) (key_set_sorted keys)
 abbrev has : List Key → Key → Bool
 has keys key = list_any (is_at (key_cmp key)) keys
 
+-- tests that are joined, in another order
 or_twice : (b c : Bool) → (b || c) ≡ (b || (b || c))
 or_twice true c = refl
 or_twice false c = refl
@@ -154,6 +158,7 @@ has-insert_key (first ∷ keys) added key = by (has-insert_key keys added key) (
         rw (e, same) (or_twice (is_eq (key_cmp key first)) (has keys key))
     by below Greater e = rw (e, below) (or_swapped (is_eq (key_cmp key first)) (is_eq (key_cmp key added)) (has keys key))
 
+-- inserted keys, and those that there were
 has-fold : (set keys : List Key) (key : Key) → has (fold (insert_key key_cmp) set keys) key ≡ (has set key || has keys key)
 has-fold set [] key = or_none (has set key)
   where

@@ -1,4 +1,9 @@
 pub mod KeySetLemmas
+pub mod MergeLemmas
+pub mod ShortcutLemmas
+pub mod StatusLemmas
 pub mod SpanLemmas
+pub mod LongestLemmas
+pub mod StepLemmas
 pub mod PushLemmas
 pub mod GraphLaws

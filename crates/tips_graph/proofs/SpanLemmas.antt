@@ -1,49 +1,73 @@
--- The keys of an edge that can be had are those of the push that it leads to.
-use Rattle.std.proofs.Common.{◌≡◌, ◌≢◌, ℕ, ◌+◌, ◌-◌, ◌<◌, ◌≤◌, length, take, drop, refl, sym, ◌∙◌, subst, arith, append-nil, suc, zero}
+-- The keys of an edge that can be had are those that are kept for it at the number that it leads to.
+use Rattle.std.proofs.Common.{◌≡◌, ◌≢◌, ℕ, ◌+◌, ◌-◌, ◌%◌, ◌<◌, ◌≤◌, length, take, drop, refl, sym, ap, ◌∙◌, arith, suc, zero}
 use Rattle.std.proofs.lemmas.Bool.Decides.{nat_tests}
-use Rattle.std.specs.Prelude.{Bool, nat_lt, false, List, [], ◌∷◌, Option, Some, None, option_map, slice_get, if◌then◌else◌, true}
-use Rattle.std.specs.List.{slice_index_or, flat_map}
+use Rattle.std.specs.Prelude.{Bool, true, false, nat_lt, List, [], ◌∷◌, Option, Some, None, slice_get, if◌then◌else◌, IsTrue}
+use Rattle.std.specs.List.{flat_map}
 use Rattle.alto_rows.specs.declared.key.Key.{Key}
-use Rattle.tips_graph.specs.Graph.{GraphData, Push, AreSets, first_of, keeps, status_of, is_step_here, span_of}
+use Rattle.tips_graph.specs.Edges.{is_shape, edge_status}
+use Rattle.tips_graph.specs.Graph.{GraphData, Push, first_of, last_of, keeps, status_of, is_step_here, span_of}
 use Rattle.tips_graph.specs.Keys.{key_set}
-use Rattle.tips_graph.specs.Sound.{IsSound}
+use Rattle.tips_graph.specs.Shortcuts.{StepData, HasLists, IsStride, list_of, before_kept}
+use Rattle.tips_graph.specs.Table.{IsPast}
+use Rattle.tips_graph.proofs.StatusLemmas.{here_by}
 use Rattle.tips_graph.specs.declared.status.EdgeStatus.{EdgeStatus}
 use Rattle.tips_graph.specs.declared.status.EdgeStatus.TheVariants.{Here}
 
--- the push at a place within a list, which alone is the list from there on for one step
-pub at_place : (pushes : List Push) (k : ℕ) → k < length pushes
-    → (push : Push) × (slice_get pushes k ≡ Some push) × (take 1 (drop k pushes) ≡ push ∷ []) × (slice_index_or pushes k push ≡ push)
-at_place [] k h = absurd (omega arith)
-at_place (push ∷ pushes) zero h = (push, refl, refl, refl)
-at_place (push ∷ pushes) (suc k) h = at_place pushes k (omega arith)
+-- an edge between versions leads onward by a stride that divides both
+pub record IsShape (i j : ℕ) : Type 0 where
+  pub onward : i < j
+  pub stride : IsStride (j - i)
+  pub divides : j % (j - i) ≡ 0
 
--- where a step can be had
+-- what an edge between versions is
+pub shape_is : (i j : ℕ) → i ≢ 0 → IsTrue (is_shape i j) → IsShape i j
+shape_is i j some shape = record { onward = grind (arith, nat_tests); stride = grind (arith, nat_tests); divides = grind (arith, nat_tests) }
+
+-- an edge leads onward, to a number from the first to the last
+pub record LeadsOnward (first last i j : ℕ) : Type 0 where
+  pub onward : i < j
+  pub from : first ≤ j
+  pub to : j ≤ last
+
+-- where an edge that can be had leads
+pub leads_onward : (first last i j : ℕ) → edge_status first last i j ≡ Here → LeadsOnward first last i j
+leads_onward first last i j here =
+    let by : IsTrue (is_shape i j) × (¬ IsPast first i) × (first ≤ j) × (j ≤ last) = (here_by (is_shape i j) first last i j).0 here in
+    record { onward = shape_onward i j by.0; from = by.2; to = by.3 }
+  where
+    shape_onward : (i j : ℕ) → IsTrue (is_shape i j) → i < j
+    shape_onward zero j shape = grind (arith, nat_tests)
+    shape_onward (suc i) j shape = (shape_is (suc i) j (omega arith) shape).onward
+
+-- where an edge between versions can be had
 pub record IsStep (graph : GraphData) (i j : ℕ) : Type 0 where
-  pub onward : j ≡ i + 1
+  pub shape : IsShape i j
   pub from : first_of graph ≤ i
-  pub to : j ≤ graph.last
+  pub to : j ≤ last_of graph
   pub kept : keeps graph j ≡ true
 
--- a graph in which an edge can be had isn't empty
-pub some_last : (graph : GraphData) (i j : ℕ) → status_of graph i j ≡ Here → 0 < graph.last
-some_last graph i j here = grind (arith, nat_tests)
+-- a version that isn't discarded is not before the first
+not_past : (first i : ℕ) → i ≢ 0 → (¬ IsPast first i) → first ≤ i
+not_past first i some stays = by (nat_lt i first) refl
+  where
+    by : (b : Bool) → nat_lt i first ≡ b → first ≤ i
+    by true e = absurd (stays (omega (arith, some), grind (arith, nat_tests)))
+    by false e = grind (arith, nat_tests)
 
 -- an edge between versions that can be had is a step between kept numbers
-pub step_here : (graph : GraphData) (i j : ℕ) → i ≢ 0 → 0 < graph.last → status_of graph i j ≡ Here → IsStep graph i j
-step_here graph i j some last here = record { onward = grind (arith, nat_tests); from = grind (arith, nat_tests); to = grind (arith, nat_tests); kept = grind (arith, nat_tests) }
+pub step_here : (graph : GraphData) (i j : ℕ) → i ≢ 0 → status_of graph i j ≡ Here → IsStep graph i j
+step_here graph i j some here =
+    let by : IsTrue (is_shape i j) × (¬ IsPast (first_of graph) i) × (first_of graph ≤ j) × (j ≤ last_of graph) = (here_by (is_shape i j) (first_of graph) (last_of graph) i j).0 here in
+    let shape : IsShape i j = shape_is i j some by.0 in
+    record { shape = shape; from = not_past (first_of graph) i some by.1; to = by.3; kept = grind (arith, nat_tests, shape.onward, by.2, by.3) }
 
--- the end of a step between kept numbers has a push
-kept_place : (graph : GraphData) (i j : ℕ) → IsSound graph → 0 < graph.last → IsStep graph i j → j - first_of graph < length graph.kept
-kept_place graph i j sound last step = rw sound.whole (grind (arith, nat_tests, sound.at_least, step.from, step.to, step.onward))
+-- the numbers from the first that is kept follow the one before it
+pub first_is : (graph : GraphData) → 0 < last_of graph → length graph.kept ≤ graph.last → first_of graph ≡ before_kept graph + 1
+first_is graph some numbered = grind (arith, nat_tests)
 
--- the keys of the push at a place are the set of all keys from there on for one step
-step_keys : (pushes : List Push) (width from k : ℕ) (found : Option Push) → k < length pushes → AreSets pushes → width ≡ 1 → from ≡ k → found ≡ slice_get pushes k
-    → option_map (λ push. push.keys) found ≡ Some (key_set (flat_map (λ push. push.keys) (take width (drop from pushes))))
-step_keys pushes width from k found within sets one same is =
-    let P : Push → Type 0 = λ push. key_set push.keys ≡ push.keys in
-    let at : (push : Push) × (slice_get pushes k ≡ Some push) × (take 1 (drop k pushes) ≡ push ∷ []) × (slice_index_or pushes k push ≡ push) = at_place pushes k within in
-    let set : key_set at.0.keys ≡ at.0.keys = subst P at.3 (sets k at.0 within) in
-    rw (is, at.1, one, same, at.2, append-nil at.0.keys, set) refl
+-- the first number comes before the last by what is kept
+pub last_is : (graph : GraphData) → 0 < last_of graph → length graph.kept ≤ graph.last → last_of graph ≡ before_kept graph + length graph.kept
+last_is graph some numbered = grind (arith, nat_tests)
 
 -- a choice by a status that lets one have it
 chosen_here : (status : EdgeStatus) (i : ℕ) (keys : Option (List Key)) → status ≡ Here → i ≢ 0 → (if is_step_here status i then keys else None) ≡ keys
@@ -52,17 +76,33 @@ chosen_here status i keys here some = rw here (positive i some)
     positive : (i : ℕ) → i ≢ 0 → (if nat_lt 0 i then keys else None) ≡ keys
     positive i some = grind (arith, nat_tests)
 
--- a choice by a test that holds
-chosen : (b : Bool) (found : Option Push) → b ≡ true → (if b then found else None) ≡ found
-chosen true found h = refl
-chosen false found h = cc
-
--- the keys of a step that can be had are those of the push at its end
-pub span_at : (graph : GraphData) (i j : ℕ) (found : Option Push) → IsSound graph → i ≢ 0 → status_of graph i j ≡ Here
-    → found ≡ (if keeps graph j then slice_get graph.kept (j - first_of graph) else None) → option_map (λ push. push.keys) found ≡ span_of graph i j
-span_at graph i j found sound some here is =
-    let last : 0 < graph.last = some_last graph i j here in
-    let step : IsStep graph i j = step_here graph i j some last here in
-    let within : j - first_of graph < length graph.kept = kept_place graph i j sound last step in
-    step_keys graph.kept (j - i) (i + 1 - first_of graph) (j - first_of graph) found within sound.sets (omega (arith, step.onward)) (omega (arith, step.onward)) (is ∙ chosen (keeps graph j) _ step.kept)
+-- the keys of an edge that can be had are those that are kept for it
+pub span_at : (graph : GraphData) (i j : ℕ) (step : StepData) → length graph.kept ≤ graph.last → i ≢ 0 → status_of graph i j ≡ Here
+    → HasLists (before_kept graph) graph.kept j step → Some (list_of step (j - i)) ≡ span_of graph i j
+span_at graph i j step numbered some here lists =
+    let edge : IsStep graph i j = step_here graph i j some here in
+    let first : first_of graph ≡ before_kept graph + 1 = first_is graph (omega (arith, edge.to, edge.shape.onward)) numbered in
+    let place : j - (j - i) - before_kept graph ≡ i + 1 - first_of graph = omega (arith, first, edge.shape.onward, edge.from) in
+    ap (λ (keys : List Key). Some keys)
+    (lists (j - i) edge.shape.stride edge.shape.divides (omega (arith, first, edge.shape.onward, edge.from))
+    ∙ ap (λ (k : ℕ). key_set (flat_map (λ (push : Push). push.keys) (take (j - i) (drop k graph.kept)))) place)
     ∙ sym (chosen_here (status_of graph i j) i _ here some)
+
+-- a place within a list has an item
+some_at : (pushes : List Push) (k : ℕ) → k < length pushes → slice_get pushes k ≢ None
+some_at [] k within = absurd (omega arith)
+some_at (push ∷ pushes) zero within = λ none. cc
+some_at (push ∷ pushes) (suc k) within = some_at pushes k (omega arith)
+
+-- so where an edge can be had, the number that it leads to is kept
+pub no_gap : (graph : GraphData) (i j : ℕ) → length graph.kept ≤ graph.last → i ≢ 0 → status_of graph i j ≡ Here
+    → None ≡ (if keeps graph j then slice_get graph.kept (j - first_of graph) else None) → ⊥
+no_gap graph i j numbered some here none =
+    let edge : IsStep graph i j = step_here graph i j some here in
+    let positive : 0 < last_of graph = omega (arith, edge.to, edge.shape.onward) in
+    some_at graph.kept (j - first_of graph) (omega (arith, first_is graph positive numbered, last_is graph positive numbered, edge.to, edge.from, edge.shape.onward))
+    (sym (none ∙ chosen (keeps graph j) (slice_get graph.kept (j - first_of graph)) edge.kept))
+  where
+    chosen : (b : Bool) (found : Option Push) → b ≡ true → (if b then found else None) ≡ found
+    chosen true found h = refl
+    chosen false found h = cc

@@ -5,7 +5,7 @@ use Rattle.alto_rows.specs.declared.key.Key.{Key}
 use Rattle.alto_rows.specs.Rows.{Rows}
 use Rattle.tips_graph.specs.declared.status.EdgeStatus.{EdgeStatus}
 use Rattle.tips_graph.specs.declared.status.EdgeStatus.TheVariants.{Absent, Gone, Awaited, Ahead, Here}
-use Rattle.tips_graph.specs.Edges.{first_kept, edge_status}
+use Rattle.tips_graph.specs.Edges.{edge_status}
 use Rattle.tips_graph.specs.Keys.{key_set}
 
 -- one number of a resource: the rows at it, and the keys that were written for it
@@ -23,22 +23,39 @@ pub record GraphData : Type 0 where
 abbrev pub last_items : {A : Type 0} → ℕ → List A → List A
 last_items n items = drop (length items - n) items
 
+-- the graph after these pushes, which make the numbers after this one
+abbrev pub graph_from : ℕ → ℕ → List Push → GraphData
+graph_from window before pushes =
+    record { window = window; last = before + length pushes; kept = last_items window pushes }
+
 -- the graph after these pushes, which make the numbers from 1 on
 abbrev pub graph_of : ℕ → List Push → GraphData
-graph_of window pushes = record { window = window; last = length pushes; kept = last_items window pushes }
+graph_of window pushes = graph_from window 0 pushes
 
 -- a graph with one push more
 abbrev pub with_push : GraphData → Push → GraphData
 with_push graph push =
     record { window = graph.window; last = graph.last + 1; kept = last_items graph.window (graph.kept ++ push ∷ []) }
 
--- the first number that a graph keeps, 0 where it is empty
+-- the first number that a graph keeps, 0 where it keeps none
 abbrev pub first_of : GraphData → ℕ
-first_of graph = if graph.last == 0 then 0 else first_kept graph.window graph.last
+first_of graph = if length graph.kept == 0 then 0 else graph.last + 1 - length graph.kept
+
+-- the last number that a graph keeps, 0 where it keeps none
+abbrev pub last_of : GraphData → ℕ
+last_of graph = if length graph.kept == 0 then 0 else graph.last
+
+-- a graph without the numbers before one that it keeps, at which the rows are to be these
+abbrev pub cut_at : GraphData → ℕ → Rows → GraphData
+cut_at graph first rows = record {
+  window = graph.window;
+  last = graph.last;
+  kept = record { rows = rows; keys = [] } ∷ drop (first + 1 - first_of graph) graph.kept;
+}
 
 -- whether the graph keeps a number
 abbrev pub keeps : GraphData → ℕ → Bool
-keeps graph number = nat_lt 0 number && nat_le (first_of graph) number && nat_le number graph.last
+keeps graph number = nat_lt 0 number && nat_le (first_of graph) number && nat_le number (last_of graph)
 
 -- the rows at a number, where it is kept
 abbrev pub rows_at : GraphData → ℕ → Option Rows
@@ -47,7 +64,7 @@ rows_at graph number =
 
 -- whether an edge of the graph can be had
 abbrev pub status_of : GraphData → ℕ → ℕ → EdgeStatus
-status_of graph i j = edge_status (first_of graph) graph.last i j
+status_of graph i j = edge_status (first_of graph) (last_of graph) i j
 
 -- an edge between two versions that can be had
 abbrev pub is_step_here : EdgeStatus → ℕ → Bool
@@ -64,7 +81,9 @@ pushes_between graph i j = take (j - i) (drop (i + 1 - first_of graph) graph.kep
 -- the distinct keys that lead from one kept number to another, in their order, where that edge can be had
 abbrev pub span_of : GraphData → ℕ → ℕ → Option (List Key)
 span_of graph i j =
-    if is_step_here (status_of graph i j) i then Some (key_set (flat_map (λ push. push.keys) (pushes_between graph i j))) else None
+    if is_step_here (status_of graph i j) i
+    then Some (key_set (flat_map (λ push. push.keys) (pushes_between graph i j)))
+    else None
 
 -- the keys of each push are a set in order
 abbrev pub AreSets : List Push → Type 0

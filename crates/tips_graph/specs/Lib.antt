@@ -2,5 +2,6 @@ pub mod Keys
 pub mod Edges
 pub mod Graph
 pub mod Sound
+pub mod Shortcuts
 pub mod Table
 pub mod Laws

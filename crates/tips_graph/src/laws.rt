@@ -1,6 +1,6 @@
 //! What holds of every updates graph, whatever was pushed. Each law is the contract of a function that does nothing.
 
-ghost use Rattle.tips_graph.specs.Laws.{OnePushMore, RowsAreThoseOfThePush, SpanIsOfThePushes, EachEdgeHasOneStatus, KeptStepsAreHere, RecommendedIsHereOrAwaited};
+ghost use Rattle.tips_graph.specs.Laws.{OnePushMore, RowsAreThoseOfThePush, SpanIsOfThePushes, EachEdgeHasOneStatus, KeptStepsAreHere, KeptShapesAreHere, RecommendedIsHereOrAwaited, RecommendedIsLongest};
 
 /// One push more on the graph of pushes is the graph of one push more.
 pub fn a_push_goes_on()
@@ -27,7 +27,17 @@ pub fn kept_steps_are_here()
     ensures { KeptStepsAreHere }
 {}
 
+/// Each edge between kept numbers that a graph may have can be had.
+pub fn kept_shapes_are_here()
+    ensures { KeptShapesAreHere }
+{}
+
 /// A recommended edge can be had, or comes next.
 pub fn recommended_is_here_or_awaited()
     ensures { RecommendedIsHereOrAwaited }
+{}
+
+/// From a kept number below the last no edge that can be had leads further than the recommended one.
+pub fn recommended_is_longest()
+    ensures { RecommendedIsLongest }
 {}

@@ -38,5 +38,35 @@ pub(crate) fn edge_status(first: u64, last: u64, i: u64, j: u64) -> EdgeStatus
 fn is_shape(i: u64, j: u64) -> bool
     ensures { result ≡ edges.is_shape i j }
 {
-    if i == 0 { 0 < j } else { i < j && j - i == 1 }
+    if i == 0 {
+        return 0 < j;
+    }
+    i < j
+        && match j - i {
+            1 => true,
+            2 => i % 2 == 0,
+            4 => i % 4 == 0,
+            8 => i % 8 == 0,
+            16 => i % 16 == 0,
+            _ => false,
+        }
+}
+
+/// The longest stride from a version that is below the last to one that isn't past it.
+pub(crate) fn longest_stride(last: u64, i: u64) -> u64
+    requires below { i < last }
+    requires room { last < 2 ^ 63 }
+    ensures { result ≡ edges.longest_stride last i }
+{
+    if i % 16 == 0 && i + 16 <= last {
+        16
+    } else if i % 8 == 0 && i + 8 <= last {
+        8
+    } else if i % 4 == 0 && i + 4 <= last {
+        4
+    } else if i % 2 == 0 && i + 2 <= last {
+        2
+    } else {
+        1
+    }
 }

@@ -1,12 +1,12 @@
 -- Requests, and replies written out.
-use Rattle.std.specs.Prelude.{ℕ, List, [], Some, None, map, false, codes}
+use Rattle.std.specs.Prelude.{ℕ, List, [], ◌∷◌, Some, None, map, false, codes}
 use Rattle.serde_json.specs.Data.{Data, string}
-use Rattle.json_tree.specs.Document.{array_of}
+use Rattle.json_tree.specs.Document.{array_of, object_of}
 use Rattle.alto_book.specs.Book.{Book}
 use Rattle.alto_http.specs.Request.{RequestData}
 use Rattle.alto_http.specs.declared.request.Verb.TheVariants as verb
 use Rattle.alto_replies.specs.Reply.{ReplyData}
-use Rattle.alto_answers.specs.Answers.{place_answer}
+use Rattle.alto_answers.specs.Answers.{PlaceAnswers}
 use Rattle.alto_answers.specs.declared.outcome.Answer.{Answer}
 use Rattle.alto_answers.specs.declared.outcome.Answer.TheVariants as answer
 use Rattle.alto_answers.specs.declared.route.Place.TheVariants as place
@@ -23,13 +23,13 @@ get target = record {
   body = [];
 }
 
--- what reading a map comes to
-abbrev pub map_at : List ℕ → Book → Answer
-map_at target book = place_answer (Some place.Maps) (get target) book
+-- reading a map comes to this
+abbrev pub ReadsMap : List ℕ → Book → Answer → Type 0
+ReadsMap target book given = PlaceAnswers (Some place.Maps) (get target) book given
 
--- what reading an edge comes to
-abbrev pub edge_at : List ℕ → Book → Answer
-edge_at target book = place_answer (Some place.Edge) (get target) book
+-- reading an edge comes to this
+abbrev pub ReadsEdge : List ℕ → Book → Answer → Type 0
+ReadsEdge target book given = PlaceAnswers (Some place.Edge) (get target) book given
 
 -- the reply with this status, content type and body
 abbrev pub reply_data : ℕ → List ℕ → List ℕ → ReplyData
@@ -58,3 +58,7 @@ refusal status body = reply status (codes "application/json") body
 -- the list of these texts
 abbrev pub texts : List (List ℕ) → Data
 texts items = array_of (map string items)
+
+-- the object whose member `edits` is the list of these items
+abbrev pub edits_member : List Data → Data
+edits_member items = object_of ((codes "edits", array_of items) ∷ [])

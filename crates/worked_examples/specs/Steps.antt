@@ -8,6 +8,6 @@ use Rattle.worked_examples.specs.Story.{metro_book}
 abbrev pub edge : ℕ → ℕ → Edge
 edge i j = record { i = i; j = j; body = edge_body (metro_book 8) (Net (codes "metro")) i j }
 
--- the first snapshot, and the two steps onward
+-- the first snapshot, the step to the next number, and the longer edge from there to the last
 abbrev pub walk : List Edge
-walk = edge 0 1 ∷ edge 1 2 ∷ edge 2 3 ∷ []
+walk = edge 0 1 ∷ edge 1 2 ∷ edge 2 4 ∷ []

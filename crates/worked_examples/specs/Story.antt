@@ -1,7 +1,7 @@
 -- Imports one after another, and the books after them.
 use Rattle.std.specs.Prelude.{ℕ, List, [], ◌∷◌, ◌++◌, fold, codes}
-use Rattle.alto_rules.specs.declared.edit.Edit.{Edit}
-use Rattle.alto_rules.specs.declared.edit.Edit.TheVariants as edit
+use Rattle.alto_edits.specs.declared.edit.Edit.{Edit}
+use Rattle.alto_edits.specs.declared.edit.Edit.TheVariants as edit
 use Rattle.alto_book.specs.Acceptance.{accept}
 use Rattle.alto_book.specs.Book.{Book, opening_book}
 use Rattle.alto_book.specs.Import.{Import}
@@ -22,10 +22,15 @@ first_import = import (codes "i1") (codes "digest 1") (edit.NetAdd (codes "metro
 abbrev pub pid_import : List ℕ → List ℕ → Import
 pid_import id pid = import id (codes "digest of " ++ id) (edit.PidAdd (codes "metro") pid ∷ [])
 
--- a network, and one after another two of its PIDs
+-- a network, and one after another three of its PIDs
 abbrev pub story : List Import
-story = first_import ∷ pid_import (codes "i2") (codes "east") ∷ pid_import (codes "i3") (codes "west") ∷ []
+story =
+    first_import
+    ∷ pid_import (codes "i2") (codes "east")
+    ∷ pid_import (codes "i3") (codes "west")
+    ∷ pid_import (codes "i4") (codes "south")
+    ∷ []
 
--- the book after the story, which keeps up to so many numbers of a resource
+-- the book after the story, which keeps up to this many numbers of a resource
 unfoldable pub metro_book : ℕ → Book
 metro_book window = book_after (opening_book (codes "e1") window) story

@@ -19,4 +19,4 @@ returns-in-Some-clause-answer g c =
 
 pub returns-in_ok-not_found-in-None-clause-answer : goal.returns-in_ok-not_found-in-None-clause-answer
 returns-in_ok-not_found-in-None-clause-answer g c = λ book legal stands.
-    rw (graph_none _ _ _ stands c.requires.documents c.in-None.ensures) (ap answer.Reply c.in_ok-not_found-in-None.ensures.reply)
+    rw (graph_none _ _ _ stands c.in-None.ensures) (ap answer.Reply c.in_ok-not_found-in-None.ensures.reply)

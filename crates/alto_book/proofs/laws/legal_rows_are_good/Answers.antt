@@ -1,8 +1,11 @@
-use Rattle.alto_book.proofs.BookLaws.{legal_rows_are_good, legal_states_are_good}
+use Rattle.alto_book.proofs.StateLemmas.{good_rows, good_state, rows_within}
 use Rattle.alto_book.proofs.laws.legal_rows_are_good.Goals as goal
 
 pub returns-clause-now : goal.returns-clause-now
-returns-clause-now c = legal_rows_are_good
+returns-clause-now c = good_rows
 
 pub returns-clause-each : goal.returns-clause-each
-returns-clause-each c = legal_states_are_good
+returns-clause-each c = good_state
+
+pub returns-clause-within : goal.returns-clause-within
+returns-clause-within c = rows_within

@@ -1,8 +1,4 @@
-use Rattle.alto_book.proofs.BookLaws.{legal_writes_fit, deletions_are_of_edits}
 use Rattle.alto_book.proofs.laws.legal_writes_fit.Goals as goal
 
-pub returns-clause-fit : goal.returns-clause-fit
-returns-clause-fit c = legal_writes_fit
-
-pub returns-clause-deletions : goal.returns-clause-deletions
-returns-clause-deletions c = deletions_are_of_edits
+pub returns : goal.returns
+returns c = λ book n batch legal there. (legal.each n batch there).fit

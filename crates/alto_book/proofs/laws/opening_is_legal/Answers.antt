@@ -1,5 +1,5 @@
-use Rattle.alto_book.proofs.BookLaws.{opening_is_legal}
+use Rattle.alto_book.proofs.OpeningLemmas.{legal_opening}
 use Rattle.alto_book.proofs.laws.opening_is_legal.Goals as goal
 
 pub returns : goal.returns
-returns c = opening_is_legal
+returns c = legal_opening

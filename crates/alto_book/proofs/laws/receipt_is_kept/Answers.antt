@@ -1,5 +1,5 @@
-use Rattle.alto_book.proofs.BookLaws.{receipt_is_kept}
+use Rattle.alto_book.proofs.RepeatLemmas.{accepted_again}
 use Rattle.alto_book.proofs.laws.receipt_is_kept.Goals as goal
 
 pub returns : goal.returns
-returns c = receipt_is_kept
+returns c = accepted_again

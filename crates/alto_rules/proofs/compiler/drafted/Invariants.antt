@@ -1,10 +1,11 @@
 -- The writes of all edits are the draft's before those of the edits that are left.
 use Rattle.std.proofs.Common.{◌≡◌, ◌+◌, drop}
 use Rattle.alto_rows.specs.Rows.{after}
-use Rattle.alto_rules.specs.Compiled.{before, edits_writes}
+use Rattle.alto_edits.specs.Compiled.{before, edits_writes}
 use Rattle.alto_rules.proofs.compiler.drafted.Given as goal
 
 abbrev pub invariant-loop-index : goal.invariant-loop-index
 invariant-loop-index g l =
-    edits_writes (g.R.RowStore.rows l.rows) 1 l.edits
-    ≡ before l.draft (edits_writes (after (g.R.RowStore.rows l.rows) l.draft) (l.index + 1) (drop l.index l.edits))
+    (l.draft.rows ≡ g.R.RowStore.rows l.rows)
+    × (edits_writes (g.R.RowStore.rows l.rows) 1 l.edits
+    ≡ before l.draft.writes (edits_writes (after (g.R.RowStore.rows l.rows) l.draft.writes) (l.index + 1) (drop l.index l.edits)))

@@ -1,16 +1,26 @@
--- Each item that reads goes to the edits so far.
-use Rattle.std.proofs.Common.{◌≡◌, ◌∙◌, ◌++◌, ◌∷◌, [], arith}
+-- Each item that reads goes to the edits so far, the first that doesn't is the fault of all, and at the end they are all.
+use Rattle.std.proofs.Common.{◌≡◌, ◌++◌, ◌∷◌, [], arith}
 use Rattle.std.proofs.lemmas.List.Elements.{All-push}
-use Rattle.alto_rules.specs.Rules.{IsEdit}
-use Rattle.edit_forms.proofs.ItemLemmas.{one_item_more}
+use Rattle.std.proofs.lemmas.Result.{err_from_is_err_and}
+use Rattle.alto_edits.specs.Edits.{IsEdit}
+use Rattle.edit_forms.proofs.ItemLemmas.{item_fault, no_more_items, one_item_more}
 use Rattle.edit_forms.proofs.json_body.edits_of.Goals as goal
+
+pub returns-in_err-edit_of-clause-err : goal.returns-in_err-edit_of-clause-err
+returns-in_err-edit_of-clause-err c =
+    let p = err_from_is_err_and c.from_residual.result c.from_residual.ensures.1 in
+    rw (p.1, p.2) (λ other.
+    item_fault c.loop-place.edits.items c.in_err-edit_of.field-0.0 c.args.items.now c.loop-place.place c.index-items-place.result
+    (omega arith) c.index-items-place.is (c.in_err-edit_of.ensures.err other) c.loop-place.invariant.on)
 
 pub loop-place-preserved : goal.loop-place-preserved
 loop-place-preserved c =
     let items : c.push.new.self.items ≡ c.loop-place.edits.items ++ c.in_ok-edit_of.field-0 ∷ [] = c.in_ok-push.ensures.items in
     record {
-      so_far = rw items (c.loop-place.invariant.so_far
-          ∙ one_item_more c.loop-place.edits.items c.in_ok-edit_of.field-0 c.args.items.now c.loop-place.place c.index-items-place.result
-          (omega arith) c.index-items-place.is c.in_ok-edit_of.ensures.ok);
+      on = rw items (one_item_more c.loop-place.edits.items c.in_ok-edit_of.field-0 c.args.items.now c.loop-place.place c.index-items-place.result
+          (omega arith) c.index-items-place.is c.in_ok-edit_of.ensures.ok c.loop-place.invariant.on);
       edits = rw items (All-push IsEdit c.loop-place.edits.items c.in_ok-edit_of.field-0 c.loop-place.invariant.edits c.in_ok-edit_of.ensures.edit);
     }
+
+pub returns-clause-ok : goal.returns-clause-ok
+returns-clause-ok c = no_more_items c.loop-place.edits.items c.args.items.now c.loop-place.place (omega arith) c.loop-place.invariant.on

@@ -1,14 +1,13 @@
 use Rattle.std.proofs.Common.{refl, arith}
 use Rattle.std.proofs.lemmas.Fmt.{decimal_digit}
-use Rattle.alto_book.specs.Acceptance.{accept}
 use Rattle.alto_rows.specs.Order.{key_cmp, resource_cmp}
 use Rattle.json.specs.Print.{escape_byte}
 use Rattle.json_patch.specs.Merge.{merge_patched}
 use Rattle.json_tree.specs.Document.{with_member}
 use Rattle.net_docs.specs.NetworkMap.{network_map}
-use Rattle.worked_examples.specs.Story.{metro_book}
+use Rattle.worked_examples.proofs.WrittenBook.{metro_book-written}
 use Rattle.worked_examples.proofs.walks.a_walk_leads_to_the_map.Goals as goal
 
 pub returns : goal.returns
-unfolding metro_book accept key_cmp resource_cmp with_member network_map merge_patched escape_byte
-returns c = rw (decimal_digit 3 (omega arith)) refl
+unfolding key_cmp resource_cmp with_member network_map merge_patched escape_byte
+returns c = rw (metro_book-written 8, decimal_digit 4 (omega arith)) refl

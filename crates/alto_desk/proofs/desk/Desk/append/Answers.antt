@@ -2,7 +2,7 @@ use Rattle.std.proofs.Common.{ap, sym, length, subst, refl, arith}
 use Rattle.std.proofs.lemmas.List.{map-append}
 use Rattle.alto_rows.specs.Accepted.{Accepted}
 use Rattle.alto_book.specs.Legal.{IsLegal}
-use Rattle.alto_desk.specs.Desk.{with_batch}
+use Rattle.alto_book.specs.Acceptance.{with_batch}
 use Rattle.alto_desk.proofs.KeepsLemmas.{keeps_more, good_more}
 use Rattle.alto_desk.proofs.desk.Desk.append.Goals as goal
 

@@ -1,0 +1,76 @@
+-- The index of a draft stays true under a write.
+use Rattle.std.proofs.Common.{◌≡◌, refl, ap, sym, ◌∙◌}
+use Rattle.std.proofs.lemmas.Cmp.{eq_by_cmp_equiv}
+use Rattle.std.proofs.lemmas.List.Folds.{list_any-append}
+use Rattle.std.specs.Prelude.{Bool, true, false, cond, ◌||◌, List, [], ◌∷◌, ◌++◌, Option, Some, None, is_some}
+use Rattle.std.specs.BTreeMap as map
+use Rattle.std.specs.BTreeMap.{BTreeMap}
+use Rattle.std.specs.BTreeSet as set
+use Rattle.std.specs.BTreeSet.{BTreeSet, contains}
+use Rattle.std.specs.Option.{unwrap_or}
+use Rattle.std.specs.Ordering.{is_eq}
+use Rattle.alto_rows.specs.declared.key.Key.{Key}
+use Rattle.alto_rows.specs.declared.resource.Resource.{Resource}
+use Rattle.alto_rows.specs.declared.value.Value.{Value}
+use Rattle.alto_rows.specs.declared.write.Write.{Write}
+use Rattle.alto_rows.specs.Order.{key_cmp, resource_cmp}
+use Rattle.alto_rows.specs.Rows.{Rows, AreSorted, value_of, has_row, after}
+use Rattle.alto_rows.specs.Touches.{part_of, is_resource}
+use Rattle.alto_rows.proofs.OrderLemmas.{resource_cmp_total}
+use Rattle.alto_rows.proofs.ResourceLemmas.{or_false}
+use Rattle.alto_rows.proofs.RowsLemmas.{same_key_back}
+use Rattle.alto_rows.proofs.TouchesLemmas.{same_resource_ties}
+use Rattle.alto_rows.proofs.WriteLemmas.{value_of-after-push}
+use Rattle.alto_rules.specs.Draft.{writing}
+use Rattle.alto_rules.specs.Index.{IsIndexed, is_part}
+
+-- no writes
+pub indexed_opened : (rows : Rows) (w : BTreeMap Key Bool) (t : BTreeSet Resource) → w.entries ≡ [] → t.keys ≡ [] → IsIndexed rows [] w t
+indexed_opened rows w t e f = record {
+  rows_at = λ at. rw e refl;
+  resources = λ of. rw f refl;
+}
+
+-- one resource more than what was there
+pub added : (b t : Bool) → cond b true t ≡ (t || b)
+added true true = refl
+added true false = refl
+added false true = refl
+added false false = refl
+
+-- the set has the resource that a key is part of
+pub part_added : (t t' : BTreeSet Resource) (part of : Resource) → set.Updates resource_cmp t t' part true
+    → contains resource_cmp t' of ≡ (contains resource_cmp t of || is_resource (Some part) of)
+part_added t t' part of more = more.0 of ∙ rw ((eq_by_cmp_equiv resource_cmp_total).symm part of, ← same_resource_ties of part) (added (is_resource (Some part) of) (contains resource_cmp t of))
+
+-- a row that is written, or else as it was
+put_or_kept : (b : Bool) (v old : Option Value) (g : Option Bool) (o : Bool) → is_some old ≡ unwrap_or g o
+    → is_some (cond b v old) ≡ unwrap_or (cond b (Some (is_some v)) g) o
+put_or_kept true v old g o h = refl
+put_or_kept false v old g o h = h
+
+-- the index stays true under a write, where the map and the set have gained it
+pub indexed_more : (rows : Rows) (writes : List Write) (at : Key) (v : Option Value) (w w' : BTreeMap Key Bool) (t t' : BTreeSet Resource)
+    → AreSorted rows → IsIndexed rows writes w t → map.Updates key_cmp w w' at (Some (is_some v))
+    → ((of : Resource) → contains resource_cmp t' of ≡ (contains resource_cmp t of || is_resource (part_of at) of))
+    → IsIndexed rows (writes ++ writing at v ∷ []) w' t'
+indexed_more rows writes at v w w' t t' s old put more = record {
+  rows_at = λ q.
+      rw (value_of-after-push rows writes (writing at v) q s, put.0 q, same_key_back q at)
+      (put_or_kept (is_eq (key_cmp at q)) v (value_of (after rows writes) q) (map.get key_cmp w q) (has_row rows q) (old.rows_at q));
+  resources = λ of.
+      more of
+      ∙ (ap (λ b. b || is_resource (part_of at) of) (old.resources of)
+      ∙ (ap (λ b. is_part writes of || b) (sym (or_false (is_resource (part_of at) of)))
+      ∙ sym (list_any-append (λ (write : Write). is_resource (part_of write.key) of) writes (writing at v ∷ []))));
+}
+
+-- a written key has a row after the writes where the map says so
+pub has_written : (rows : Rows) (writes : List Write) (w : BTreeMap Key Bool) (t : BTreeSet Resource) → IsIndexed rows writes w t
+    → (at : Key) (b : Bool) → Some b ≡ map.get key_cmp w at → b ≡ has_row (after rows writes) at
+has_written rows writes w t indexed at b h = rw (indexed.rows_at at, ← h) refl
+
+-- any other key has a row where it had one before the writes
+pub has_unwritten : (rows : Rows) (writes : List Write) (w : BTreeMap Key Bool) (t : BTreeSet Resource) → IsIndexed rows writes w t
+    → (at : Key) → None ≡ map.get key_cmp w at → has_row rows at ≡ has_row (after rows writes) at
+has_unwritten rows writes w t indexed at h = rw (indexed.rows_at at, ← h) refl

@@ -1,0 +1,88 @@
+ghost use Rattle.std.specs.Prelude.{◌≡◌, ◌+◌, ◌-◌, [], IfOk, Some, length};
+ghost use Rattle.std.specs.BTreeMap.{Updates};
+ghost use Rattle.alto_rows.specs.Rows.{AreSorted};
+ghost use Rattle.alto_rows.specs.Span.{count_in};
+ghost use Rattle.alto_rules.specs.Sizes.{HasRecounted, count_from, counted_cmp, counted_of, recounted, span_of};
+
+use crate::counted::{Counted, counted_of, span_of};
+use alto_rows::{Key, RowStore};
+use std::alloc::{AllocError, Global};
+use std::collections::BTreeMap;
+
+/// How many rows there are after writes.
+#[derive(Drop)]
+pub struct Sizes {
+    /// All rows.
+    pub total: usize,
+    /// Those of what has more or fewer rows than before the writes.
+    pub counts: BTreeMap<Counted, usize>,
+}
+
+impl Sizes {
+    /// The sizes of the rows of a store.
+    pub fn new<R: RowStore>(alloc: Global, rows: &R) -> Sizes
+        ensures total { result.total ≡ length (R.rows rows.now) }
+        ensures counts { result.counts.entries ≡ [] }
+    {
+        Sizes {
+            total: rows.len(),
+            counts: BTreeMap::new(alloc),
+        }
+    }
+
+    /// How many rows of what is counted there are. A search, or three where the writes left their number.
+    pub fn count<R: RowStore>(&self, rows: &R, counted: &Counted) -> Result<usize, AllocError>
+        ensures { IfOk result (λ count. count ≡ count_from (R.rows rows.now) self.now.counts counted.now) }
+    {
+        match self.counts.get(counted) {
+            Some(count) => Ok(*count),
+            None => Ok(rows.count_in(&span_of(counted)?)),
+        }
+    }
+
+    /// The sizes after a write of a key that had a row or not, and then has one or not.
+    pub fn with<R: RowStore>(
+        self,
+        rows: &R,
+        key: &Key,
+        had: bool,
+        has: bool,
+    ) -> Result<Sizes, AllocError>
+        ensures total { IfOk result (λ sizes. sizes.total ≡ recounted had has self.total) }
+        ensures counts { IfOk result (λ sizes. HasRecounted (R.rows rows.now) (counted_of key.now) had has self.counts sizes.counts) }
+    {
+        let total = recounted(had, has, self.total)?;
+        let counts = match counted_of(key)? {
+            Some(counted) => {
+                let count = recounted(had, has, self.count(rows, &counted)?)?;
+                with_count(self.counts, counted, count)?
+            }
+            None => self.counts,
+        };
+        Ok(Sizes { total, counts })
+    }
+}
+
+/// A count once a row is there or not that was there or not. More rows than memory has addresses are out of memory.
+fn recounted(had: bool, has: bool, count: usize) -> Result<usize, AllocError>
+    ensures { IfOk result (λ after. after ≡ recounted had has count) }
+{
+    match (had, has) {
+        (true, false) => Ok(count.saturating_sub(1)),
+        (false, true) => count.checked_add(1).ok_or(AllocError),
+        _ => Ok(count),
+    }
+}
+
+/// The counts with one more.
+fn with_count(
+    counts: BTreeMap<Counted, usize>,
+    counted: Counted,
+    count: usize,
+) -> Result<BTreeMap<Counted, usize>, AllocError>
+    ensures { IfOk result (λ all. Updates counted_cmp counts all counted (Some count)) }
+{
+    let mut all = counts;
+    all.insert(counted, count)?;
+    Ok(all)
+}

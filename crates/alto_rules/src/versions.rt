@@ -1,0 +1,182 @@
+ghost use Rattle.std.specs.Prelude.{◌≡◌, ◌+◌, ◌^◌, ◌<◌, IfOk, option_copied};
+ghost use Rattle.std.specs.BTreeSet.{contains};
+ghost use Rattle.std.specs.List.{flat_map};
+ghost use Rattle.alto_rows.specs.declared.resource.Resource as resource;
+ghost use Rattle.alto_rows.specs.Order.{resource_cmp};
+ghost use Rattle.alto_rows.specs.Versions.{cost_declared, declaring_key, is_declared, number_in, version_of};
+ghost use Rattle.alto_edits.specs.Laws.{HaveNextVersions};
+ghost use Rattle.alto_edits.specs.Versions.{next_version, sequence_writes};
+ghost use Rattle.alto_rules.specs.Draft.{HasJoined, HasTouched, HaveNoVersions, costs_of, dependents, drafted_rows, is_among, wrote};
+
+use crate::draft::Draft;
+use crate::index::with_resource;
+use alto_names::NetName;
+use alto_rows::{Key, Resource, RowStore, Span, Value, Write, rows_in};
+use std::alloc::{AllocError, Global};
+use std::collections::BTreeSet;
+
+impl<'a, R: RowStore> Draft<'a, R> {
+    /// The draft with the version rows of the declared resources that its writes touch. Some searches for each, and for a
+    /// network's map a walk over its metrics.
+    pub fn versioned(self) -> Result<Self, AllocError>
+        requires edits { HaveNoVersions self.writes }
+        requires room { HaveNextVersions self.rows }
+        ensures { IfOk result (λ draft. draft ≡ wrote self.entry (sequence_writes self.entry.rows self.entry.writes)) }
+    {
+        let versions = self.versions()?;
+        let mut draft = self;
+        for version in versions {
+            draft = draft.write(version.key, version.value)?;
+        }
+        Ok(draft)
+    }
+
+    /// The version rows of the declared resources that the writes touch.
+    fn versions(&self) -> Result<Vec<Write>, AllocError>
+        requires edits { HaveNoVersions self.now.writes }
+        requires room { HaveNextVersions self.now.rows }
+        ensures { IfOk result (λ versions. versions.items ≡ sequence_writes self.now.rows self.now.writes) }
+    {
+        let mut versions = Vec::new(*self.writes.allocator());
+        for of in self.touched()? {
+            if self.declares(&of)? {
+                versions.push(self.next_version(of))?;
+            }
+        }
+        Ok(versions)
+    }
+
+    /// Whether the resource is declared after the writes.
+    fn declares(&self, of: &Resource) -> Result<bool, AllocError>
+        ensures { IfOk result (λ declares. declares ≡ is_declared (drafted_rows self.now) of.now) }
+    {
+        Ok(self.has(&declaring_key(of)?))
+    }
+
+    /// The resources that the writes touch, and perhaps some that aren't declared.
+    fn touched(&self) -> Result<BTreeSet<Resource>, AllocError>
+        requires { HaveNoVersions self.now.writes }
+        ensures { IfOk result (λ touched. HasTouched self.now.rows self.now.writes touched) }
+    {
+        all_dependents(*self.writes.allocator(), self.rows, &self.index.parts)
+    }
+
+    /// The write that gives a resource its next version.
+    fn next_version(&self, of: Resource) -> Write
+        requires { version_of self.now.rows of + 1 < 2 ^ 63 }
+        ensures { result ≡ next_version self.now.rows of }
+    {
+        next_version(self.rows, of)
+    }
+}
+
+/// The resources with what depends on them.
+fn all_dependents<R: RowStore>(
+    alloc: Global,
+    rows: &R,
+    parts: &BTreeSet<Resource>,
+) -> Result<BTreeSet<Resource>, AllocError>
+    ensures { IfOk result (λ all. (one : resource.Resource)
+        → contains resource_cmp all one ≡ is_among one (flat_map (dependents (R.rows rows.now)) parts.now.keys)) }
+{
+    let mut all = BTreeSet::new(alloc);
+    for of in parts {
+        all = with_dependents(rows, all, of)?;
+    }
+    Ok(all)
+}
+
+/// The resources with one more and what depends on it: with a network map the network's property map and its cost maps.
+fn with_dependents<R: RowStore>(
+    rows: &R,
+    touched: BTreeSet<Resource>,
+    of: &Resource,
+) -> Result<BTreeSet<Resource>, AllocError>
+    ensures { IfOk result (λ all. HasJoined touched (dependents (R.rows rows.now) of.now) all) }
+{
+    match of {
+        Resource::Net(net) => with_map(rows, touched, net),
+        _ => with_resource(touched, copied_resource(of)?),
+    }
+}
+
+/// The resources with a network's map, its property map and its cost maps.
+fn with_map<R: RowStore>(
+    rows: &R,
+    touched: BTreeSet<Resource>,
+    net: &NetName,
+) -> Result<BTreeSet<Resource>, AllocError>
+    ensures { IfOk result (λ all. HasJoined touched (dependents (R.rows rows.now) (Resource.Net net.now)) all) }
+{
+    let with_net = with_resource(touched, Resource::Net(net.clone()?))?;
+    let with_prop = with_resource(with_net, Resource::Prop(net.clone()?))?;
+    let all = with_costs(rows, with_prop, net)?;
+    Ok(all)
+}
+
+/// The resources with the cost maps that the rows declare of a network.
+fn with_costs<R: RowStore>(
+    rows: &R,
+    touched: BTreeSet<Resource>,
+    net: &NetName,
+) -> Result<BTreeSet<Resource>, AllocError>
+    ensures { IfOk result (λ all. HasJoined touched (costs_of (R.rows rows.now) net.now) all) }
+{
+    let mut all = touched;
+    for row in rows_in(rows, Span::Metrics(net.clone()?)) {
+        if let Some(cost) = cost_declared(row)? {
+            all = with_resource(all, cost)?;
+        }
+    }
+    Ok(all)
+}
+
+/// The cost map that a row declares.
+fn cost_declared(row: &(Key, Value)) -> Result<Option<Resource>, AllocError>
+    ensures { IfOk result (λ cost. cost ≡ cost_declared row.now) }
+{
+    Ok(match &row.0 {
+        Key::Metric(net, metric) => Some(Resource::Cost(net.clone()?, metric.clone()?)),
+        _ => None,
+    })
+}
+
+/// The key that declares a resource.
+fn declaring_key(of: &Resource) -> Result<Key, AllocError>
+    ensures { IfOk result (λ key. key ≡ declaring_key of.now) }
+{
+    Ok(match of {
+        Resource::Net(net) | Resource::Prop(net) => Key::Net(net.clone()?),
+        Resource::Cost(net, metric) => Key::Metric(net.clone()?, metric.clone()?),
+    })
+}
+
+/// A copy of a resource.
+fn copied_resource(of: &Resource) -> Result<Resource, AllocError>
+    ensures { IfOk result (λ copy. copy ≡ of.now) }
+{
+    of.clone()
+}
+
+/// The write that gives a resource its next version.
+fn next_version<R: RowStore>(rows: &R, of: Resource) -> Write
+    requires { version_of (R.rows rows.now) of + 1 < 2 ^ 63 }
+    ensures { result ≡ next_version (R.rows rows.now) of }
+{
+    let key = Key::Seq(of);
+    let version = number_in(rows.get(&key));
+    Write {
+        key,
+        value: Some(Value::Num(version + 1)),
+    }
+}
+
+/// A row's number, 0 where it has none.
+fn number_in(value: Option<&Value>) -> u64
+    ensures { result ≡ number_in (option_copied value.entry) }
+{
+    match value {
+        Some(Value::Num(n)) => *n,
+        _ => 0,
+    }
+}
