@@ -31,22 +31,36 @@ def get(path):
     return f"GET {path} HTTP/1.1\r\n\r\n".encode()
 
 
-def pids(first, count):
+def pids(count):
     """The lines that add PIDs to the network `metro`."""
-    return [f"pid-add,metro,pid-{k:05},,," for k in range(first, first + count)]
+    return [f"pid-add,metro,pid-{k:04},,," for k in range(count)]
+
+
+def prefixes(first, count):
+    """The lines that put prefixes into the first 1,000 PIDs, in turn."""
+    return [
+        f"prefix-put,metro,pid-{k % 1_000:04},10.{k >> 8}.{k & 255}.0/24,," for k in range(first, first + count)
+    ]
+
+
+def moves(count):
+    """The lines that move the first of these prefixes, each to the PID after its own."""
+    return [f"prefix-put,metro,pid-{(k + 1) % 1_000:04},10.{k >> 8}.{k & 255}.0/24,," for k in range(count)]
 
 
 def workloads():
     """Yields each workload: its name, the requests that set it up, and those that are measured."""
-    network = edits("net", ["net-add,metro,,,,"])
-    yield "one import of 16,000 PIDs", [network], [edits("many", pids(0, 16_000))]
-    yield "30 imports of one PID after 16,000", [network, edits("many", pids(0, 16_000))], [
-        edits(f"one-{k}", pids(16_000 + k, 1)) for k in range(30)
-    ]
-    yield "100 maps of 1,000 PIDs", [network, edits("some", pids(0, 1_000))], [get("/maps/metro")] * 100
-    yield "10,000 steps of one PID", [network, edits("some", pids(0, 1_000)), edits("one", pids(1_000, 1))], [
-        get("/tips/metro/ug/2/3")
-    ] * 10_000
+    network = ["net-add,metro,,,,"]
+    thousand = edits("some", network + pids(1_000))
+    filled = edits("many", network + pids(1_000) + prefixes(0, 14_999))
+    yield "one import of 16,000 edits", [], [filled]
+    yield "30 imports of one prefix after it", [filled], [edits(f"one-{k}", prefixes(15_000 + k, 1)) for k in range(30)]
+    yield "one import that moves 8,000 prefixes", [filled], [edits("moved", moves(8_000))]
+    yield "one import that withdraws all", [filled], [edits("none", ["net-drop,metro,,,,"])]
+    yield "100 maps of 1,000 PIDs", [thousand], [get("/maps/metro")] * 100
+    steps = [edits(f"step-{k}", [f"pid-drop,metro,pid-{k:04},,,"]) for k in range(3)]
+    yield "10,000 steps of one PID", [thousand, *steps], [get("/tips/metro/ug/2/3")] * 10_000
+    yield "10,000 edges of two steps", [thousand, *steps], [get("/tips/metro/ug/2/4")] * 10_000
 
 
 def replies(stream, count):
