@@ -1,0 +1,5 @@
+pub mod Sizes
+pub mod Cut
+pub mod Chunks
+pub mod Passed
+pub mod Split
