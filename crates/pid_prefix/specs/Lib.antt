@@ -1,0 +1,7 @@
+pub mod Longest
+pub mod Ranges
+pub mod Bits
+pub mod Blocks
+pub mod Sweep
+pub mod Families
+pub mod Table
