@@ -1,8 +1,7 @@
 -- How the writes of edits grow edit by edit, and that they are of no versions.
 use Rattle.std.proofs.Common.{◌≡◌, refl, ap, sym, ◌∙◌, append_assoc, add-one, drop-cons, suc, ◌<◌, length, get_or, drop}
 use Rattle.std.proofs.lemmas.Bool.{both_ways}
-use Rattle.std.specs.Prelude.{ℕ, ◌+◌, Bool, true, false, cond, List, [], ◌∷◌, ◌++◌, filter, map, Option, Some, None, Result, Ok, Err}
-use Rattle.std.specs.List.{AllByRecursion}
+use Rattle.std.specs.Prelude.{ℕ, ◌+◌, Bool, true, false, cond, List, [], ◌∷◌, ◌++◌, filter, map, Option, Some, None, Result, Ok, Err, is_some}
 use Rattle.alto_rows.specs.declared.key.Key.{Key}
 use Rattle.alto_rows.specs.declared.key.Key.TheVariants as key
 use Rattle.alto_rows.specs.declared.resource.Resource.{Resource}
@@ -26,9 +25,10 @@ use Rattle.alto_edits.specs.Writes.{names, putting, withdrawing, taking, writes_
 use Rattle.alto_edits.specs.Compiled.{before, broken_by_batch, compiled, edits_writes, unless_broken}
 use Rattle.alto_edits.proofs.ClosedLemmas.{is_elsewhere, taking-elsewhere}
 use Rattle.alto_edits.proofs.EditLemmas.{all_append}
-use Rattle.alto_rules.specs.Draft.{Drafted, HaveNoVersions, drafted_rows, wrote}
-use Rattle.alto_rules.specs.Parts.{edit_key, edit_value}
+use Rattle.alto_rules.specs.Draft.{Drafted, GivesAlone, HaveNoVersions, drafted_rows, gives_none, wrote}
+use Rattle.alto_rules.specs.Parts.{edit_key, edit_value, has_one_write}
 use Rattle.alto_rules.specs.Withdrawal.{withdraws}
+use Rattle.alto_rules.proofs.DraftedLemmas.{alone_none}
 
 -- ---- edit by edit
 
@@ -49,14 +49,30 @@ edits_writes-next rows done edits i edit writes within is unbroken of =
 -- ---- the writes of one edit
 
 -- an edit that withdraws nothing and puts no prefix has one write
-pub one_write : (rows : Rows) (of : Edit) → ((net : List ℕ) → of ≡ edit.NetDrop net → ⊥) → ((net pid : List ℕ) → of ≡ edit.PidDrop net pid → ⊥)
+pub one_left : (of : Edit) → ((net : List ℕ) → of ≡ edit.NetDrop net → ⊥) → ((net pid : List ℕ) → of ≡ edit.PidDrop net pid → ⊥)
     → ((net metric : List ℕ) → of ≡ edit.MetricDrop net metric → ⊥) → ((net pid : List ℕ) (prefix : _) → of ≡ edit.PrefixPut net pid prefix → ⊥)
-    → writes_of rows of ≡ record { key = edit_key of; value = edit_value of } ∷ []
-one_write rows (edit.NetDrop net) a b c d = absurd (a net refl)
-one_write rows (edit.PidDrop net pid) a b c d = absurd (b net pid refl)
-one_write rows (edit.MetricDrop net metric) a b c d = absurd (c net metric refl)
-one_write rows (edit.PrefixPut net pid prefix) a b c d = absurd (d net pid prefix refl)
-one_write rows _ a b c d = refl
+    → has_one_write of ≡ true
+one_left (edit.NetDrop net) a b c d = absurd (a net refl)
+one_left (edit.PidDrop net pid) a b c d = absurd (b net pid refl)
+one_left (edit.MetricDrop net metric) a b c d = absurd (c net metric refl)
+one_left (edit.PrefixPut net pid prefix) a b c d = absurd (d net pid prefix refl)
+one_left _ a b c d = refl
+
+pub one_write : (rows : Rows) (of : Edit) → has_one_write of ≡ true → writes_of rows of ≡ record { key = edit_key of; value = edit_value of } ∷ []
+one_write rows (edit.NetDrop net) h = cc
+one_write rows (edit.PidDrop net pid) h = cc
+one_write rows (edit.MetricDrop net metric) h = cc
+one_write rows (edit.PrefixPut net pid prefix) h = cc
+one_write rows _ h = refl
+
+-- which gives no prefix to a PID
+pub one_alone : (rows : Rows) (of : Edit) → has_one_write of ≡ true → is_some (edit_value of) ≡ true → GivesAlone rows (edit_key of)
+one_alone rows of h some = alone_none rows (edit_key of) (gives of h some)
+  where
+    gives : (of : Edit) → has_one_write of ≡ true → is_some (edit_value of) ≡ true → gives_none (edit_key of) ≡ true
+    gives (edit.PrefixPut net pid prefix) h some = cc
+    gives (edit.PrefixDel net pid prefix) h some = cc
+    gives _ h some = refl
 
 -- ---- no versions
 

@@ -1,7 +1,7 @@
 -- Drafts with more writes.
 use Rattle.std.proofs.Common.{◌≡◌, refl, ap, sym, ◌∙◌, append_assoc, subst}
 use Rattle.std.proofs.lemmas.Bool.{both_ways}
-use Rattle.std.specs.Prelude.{Bool, true, List, [], ◌∷◌, ◌++◌, map}
+use Rattle.std.specs.Prelude.{true, List, [], ◌∷◌, ◌++◌, map}
 use Rattle.std.specs.List.{AllByRecursion}
 use Rattle.alto_rows.specs.declared.key.Key.{Key}
 use Rattle.alto_rows.specs.declared.resource.Resource.{Resource}

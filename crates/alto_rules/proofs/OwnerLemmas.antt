@@ -1,30 +1,31 @@
 -- The owners of a draft stay true under a write, and tell who has a prefix.
 use Rattle.std.proofs.Common.{◌≡◌, refl, ap, sym, ◌∙◌, subst}
 use Rattle.std.proofs.lemmas.Bool.{and_parts, both_ways, false_from_ne_true}
-use Rattle.std.specs.Prelude.{ℕ, Bool, true, false, cond, not, ◌&&◌, ◌||◌, List, [], ◌∷◌, Option, Some, None, is_some, option_map}
-use Rattle.std.specs.BTreeMap as map
-use Rattle.std.specs.BTreeMap.{BTreeMap, get, is_at}
+use Rattle.std.specs.Prelude.{ℕ, Bool, true, false, cond, not, ◌&&◌, List, [], ◌∷◌, Option, Some, None, is_some, option_map, map}
+use Rattle.std.specs.BTreeMap as maps
+use Rattle.std.specs.BTreeMap.{BTreeMap, get}
 use Rattle.std.specs.BTreeSet as set
 use Rattle.std.specs.BTreeSet.{BTreeSet, contains}
 use Rattle.std.specs.List.{filter_map}
-use Rattle.std.specs.Map.{lookup}
 use Rattle.std.specs.Ordering.{is_eq}
 use Rattle.alto_addr.specs.declared.prefix.Prefix.{Prefix}
+use Rattle.alto_addr.specs.Order.{prefix_cmp}
 use Rattle.alto_rows.specs.declared.key.Key.{Key}
 use Rattle.alto_rows.specs.declared.key.Key.TheVariants as key
 use Rattle.alto_rows.specs.declared.span.Span.{Span}
 use Rattle.alto_rows.specs.declared.span.Span.TheVariants as span
 use Rattle.alto_rows.specs.declared.value.Value.{Value}
 use Rattle.alto_rows.specs.Order.{key_cmp, name_cmp, same_name}
+use Rattle.alto_rows.specs.Prefixes.{prefix_declared, prefixes_in}
 use Rattle.alto_rows.specs.Rows.{Rows, AreSorted, has_row, value_of, with_value}
 use Rattle.alto_rows.specs.Span.{is_in, rows_in}
 use Rattle.alto_rows.proofs.OrderLemmas.{key_cmp_itself, one_key}
-use Rattle.alto_rows.proofs.TouchesLemmas.{one_name, same_name_itself, same_name_ties}
+use Rattle.alto_rows.proofs.TouchesLemmas.{both_ties, one_name, same_name_itself, same_name_ties}
 use Rattle.alto_rows.proofs.WithinLemmas.{value_of-rows_in}
 use Rattle.alto_rows.proofs.WriteLemmas.{value_of-with_value}
 use Rattle.alto_rules.specs.declared.place.Place.{Place}
 use Rattle.alto_rules.specs.Draft.{GivesAlone, HasOwner, HaveOneOwner, is_owner}
-use Rattle.alto_rules.specs.Owners.{AreOwners, HasChanged, HasFilled, HasFilledWith, kept_or, owner_from, owner_in, owner_left, owner_told, place_cmp, place_of}
+use Rattle.alto_rules.specs.Owners.{AreOwners, HasChanged, HasFilled, kept_or, owner_among, owner_from, owner_left, owner_told, place_cmp, place_of, placed}
 use Rattle.alto_rules.proofs.Orders.{one_place, the_place, place_back, place_itself}
 
 -- ---- whether a key is that of a prefix
@@ -64,6 +65,15 @@ another_not rows net p q x alone h =
 
 -- ---- the owners that rows tell
 
+-- the prefix that a row gives a PID, and this PID
+abbrev owner_in : Key × Value → Option (Place × List ℕ)
+owner_in (key.Prefix net pid prefix, v) = Some (place_of net prefix, pid)
+owner_in _ = None
+
+-- the owner that rows tell of a prefix
+abbrev told_in : Rows → Place → Option (List ℕ)
+told_in rows at = owner_told (filter_map owner_in rows) at
+
 -- what is behind a first row has one PID for a prefix too
 rest_one : (row : Key × Value) (rows : Rows) → HaveOneOwner (row ∷ rows) → HaveOneOwner rows
 rest_one row rows one net first second prefix f s =
@@ -99,12 +109,12 @@ other_row at other v rows h = rw h refl
 
 -- rows of which each prefix has one PID tell it
 told_prefix : (n p : List ℕ) (x : Prefix) (v : Value) (rows : Rows) (net pid : List ℕ) (prefix : Prefix) → HaveOneOwner ((key.Prefix n p x, v) ∷ rows)
-    → has_row rows (key.Prefix net pid prefix) ≡ is_owner (owner_told rows (place_of net prefix)) pid
-    → has_row ((key.Prefix n p x, v) ∷ rows) (key.Prefix net pid prefix) ≡ is_owner (owner_told ((key.Prefix n p x, v) ∷ rows) (place_of net prefix)) pid
+    → has_row rows (key.Prefix net pid prefix) ≡ is_owner (told_in rows (place_of net prefix)) pid
+    → has_row ((key.Prefix n p x, v) ∷ rows) (key.Prefix net pid prefix) ≡ is_owner (told_in ((key.Prefix n p x, v) ∷ rows) (place_of net prefix)) pid
 told_prefix n p x v rows net pid prefix one below = by (is_eq (place_cmp (place_of net prefix) (place_of n x))) refl
   where
     by : (b : Bool) → is_eq (place_cmp (place_of net prefix) (place_of n x)) ≡ b
-        → has_row ((key.Prefix n p x, v) ∷ rows) (key.Prefix net pid prefix) ≡ is_owner (owner_told ((key.Prefix n p x, v) ∷ rows) (place_of net prefix)) pid
+        → has_row ((key.Prefix n p x, v) ∷ rows) (key.Prefix net pid prefix) ≡ is_owner (told_in ((key.Prefix n p x, v) ∷ rows) (place_of net prefix)) pid
     by true e =
         let same : (net ≡ n) × (prefix ≡ x) = one_place net n prefix x e in
         rw e
@@ -116,14 +126,14 @@ told_prefix n p x v rows net pid prefix one below = by (is_eq (place_cmp (place_
         (apart_places n net p pid x prefix (place_back (place_of n x) (place_of net prefix) ∙ e)) ∙ below)
 
 pub told_owner : (rows : Rows) (net pid : List ℕ) (prefix : Prefix) → HaveOneOwner rows
-    → has_row rows (key.Prefix net pid prefix) ≡ is_owner (owner_told rows (place_of net prefix)) pid
+    → has_row rows (key.Prefix net pid prefix) ≡ is_owner (told_in rows (place_of net prefix)) pid
 unfolding key_cmp
 told_owner [] net pid prefix one = refl
 told_owner (row ∷ rows) net pid prefix one = by row.0 row.1 one (told_owner rows net pid prefix (rest_one row rows one))
   where
     by : (at : Key) (v : Value) → HaveOneOwner ((at, v) ∷ rows)
-        → has_row rows (key.Prefix net pid prefix) ≡ is_owner (owner_told rows (place_of net prefix)) pid
-        → has_row ((at, v) ∷ rows) (key.Prefix net pid prefix) ≡ is_owner (owner_told ((at, v) ∷ rows) (place_of net prefix)) pid
+        → has_row rows (key.Prefix net pid prefix) ≡ is_owner (told_in rows (place_of net prefix)) pid
+        → has_row ((at, v) ∷ rows) (key.Prefix net pid prefix) ≡ is_owner (told_in ((at, v) ∷ rows) (place_of net prefix)) pid
     by (key.Prefix n p x) v one below = told_prefix n p x v rows net pid prefix one below
     by _ v one below = below
 
@@ -141,13 +151,13 @@ one_owner_in rows s one net first second prefix f g =
 
 -- the rows of a network tell no owner in another
 told_elsewhere : (rows : Rows) (net n : List ℕ) (prefix : Prefix) → HaveOneOwner rows → same_name net n ≡ false
-    → owner_told (rows_in rows (span.Prefixes net)) (place_of n prefix) ≡ None
-told_elsewhere rows net n prefix one h = by (owner_told (rows_in rows (span.Prefixes net)) (place_of n prefix)) refl
+    → told_in (rows_in rows (span.Prefixes net)) (place_of n prefix) ≡ None
+told_elsewhere rows net n prefix one h = by (told_in (rows_in rows (span.Prefixes net)) (place_of n prefix)) refl
   where
     out : (pid : List ℕ) → has_row (rows_in rows (span.Prefixes net)) (key.Prefix n pid prefix) ≡ false
     out pid = ap is_some (value_of-rows_in rows (span.Prefixes net) (key.Prefix n pid prefix)) ∙ rw h refl
 
-    by : (told : Option (List ℕ)) → owner_told (rows_in rows (span.Prefixes net)) (place_of n prefix) ≡ told → told ≡ None
+    by : (told : Option (List ℕ)) → told_in (rows_in rows (span.Prefixes net)) (place_of n prefix) ≡ told → told ≡ None
     by None e = refl
     by (Some o) e =
         absurd (both_ways (has_row (rows_in rows (span.Prefixes net)) (key.Prefix n o prefix)) (out o)
@@ -155,7 +165,7 @@ told_elsewhere rows net n prefix one h = by (owner_told (rows_in rows (span.Pref
 
 -- the rows of a network tell its owners
 told_here : (rows : Rows) (net pid : List ℕ) (prefix : Prefix) → HaveOneOwner rows
-    → has_row rows (key.Prefix net pid prefix) ≡ is_owner (owner_told (rows_in rows (span.Prefixes net)) (place_of net prefix)) pid
+    → has_row rows (key.Prefix net pid prefix) ≡ is_owner (told_in (rows_in rows (span.Prefixes net)) (place_of net prefix)) pid
 told_here rows net pid prefix one =
     inside
     ∙ told_owner (rows_in rows (span.Prefixes net)) net pid prefix (one_owner_in rows (span.Prefixes net) one)
@@ -163,13 +173,47 @@ told_here rows net pid prefix one =
     inside : has_row rows (key.Prefix net pid prefix) ≡ has_row (rows_in rows (span.Prefixes net)) (key.Prefix net pid prefix)
     inside = sym (ap is_some (value_of-rows_in rows (span.Prefixes net) (key.Prefix net pid prefix)) ∙ rw (same_name_itself net) refl)
 
+-- the prefixes of a network with their PIDs are what its rows tell
+placed_prefixes : (rows : Rows) (net : List ℕ) → map (placed net) (prefixes_in rows net) ≡ filter_map owner_in (rows_in rows (span.Prefixes net))
+placed_prefixes [] net = refl
+placed_prefixes (row ∷ rows) net = by row.0 row.1 (placed_prefixes rows net)
+  where
+    tie : (of pid : List ℕ) (prefix : Prefix) (v : Value) (b : Bool) → same_name net of ≡ b
+        → map (placed net) (prefixes_in rows net) ≡ filter_map owner_in (rows_in rows (span.Prefixes net))
+        → map (placed net) (filter_map prefix_declared (cond b ((key.Prefix of pid prefix, v) ∷ rows_in rows (span.Prefixes net)) (rows_in rows (span.Prefixes net))))
+        ≡ filter_map owner_in (cond b ((key.Prefix of pid prefix, v) ∷ rows_in rows (span.Prefixes net)) (rows_in rows (span.Prefixes net)))
+    tie of pid prefix v true e below =
+        ap (λ (n : List ℕ). (place_of n prefix, pid) ∷ map (placed net) (prefixes_in rows net)) (one_name net of e)
+        ∙ ap (λ (told : List (Place × List ℕ)). (place_of of prefix, pid) ∷ told) below
+    tie of pid prefix v false e below = below
+
+    by : (at : Key) (v : Value) → map (placed net) (prefixes_in rows net) ≡ filter_map owner_in (rows_in rows (span.Prefixes net))
+        → map (placed net) (prefixes_in ((at, v) ∷ rows) net) ≡ filter_map owner_in (rows_in ((at, v) ∷ rows) (span.Prefixes net))
+    by (key.Prefix of pid prefix) v below = tie of pid prefix v (same_name net of) refl below
+    by _ v below = below
+
+-- in one network places are told apart by their prefixes
+told_among : (net : List ℕ) (prefix : Prefix) (told : List (Prefix × List ℕ)) → owner_told (map (placed net) told) (place_of net prefix) ≡ owner_among told prefix
+unfolding place_cmp
+told_among net prefix [] = refl
+told_among net prefix (one ∷ told) =
+    rw (both_ties (name_cmp net net) (prefix_cmp prefix one.0), ← same_name_ties net net, same_name_itself net)
+    (ap (λ (rest : Option (List ℕ)). cond (is_eq (prefix_cmp prefix one.0)) (Some one.1) rest) (told_among net prefix told))
+
+-- so the PID among its prefixes owns a prefix
+pub among_owner : (rows : Rows) (net : List ℕ) (prefix : Prefix) → HaveOneOwner rows → HasOwner rows net prefix (owner_among (prefixes_in rows net) prefix)
+among_owner rows net prefix one pid =
+    told_here rows net pid prefix one
+    ∙ ap (λ (owner : Option (List ℕ)). is_owner owner pid)
+    (ap (λ (told : List (Place × List ℕ)). owner_told told (place_of net prefix)) (sym (placed_prefixes rows net)) ∙ told_among net prefix (prefixes_in rows net))
+
 -- the owners tell the same once a network is known
 pub owners_known : (rows later : Rows) (net : List ℕ) (of of' : BTreeMap Place (Option (List ℕ))) (known known' : BTreeSet (List ℕ))
-    → HaveOneOwner rows → contains name_cmp known net ≡ false → HasFilled (rows_in rows (span.Prefixes net)) of of'
+    → HaveOneOwner rows → contains name_cmp known net ≡ false → HasFilled (map (placed net) (prefixes_in rows net)) of of'
     → set.Updates name_cmp known known' net true → AreOwners rows later of known → AreOwners rows later of' known'
 owners_known rows later net of of' known known' one unknown filled more old n pid prefix =
     old n pid prefix
-    ∙ rw (filled (place_of n prefix), more.0 n) (by (get place_cmp of (place_of n prefix)))
+    ∙ rw (filled (place_of n prefix), placed_prefixes rows net, more.0 n) (by (get place_cmp of (place_of n prefix)))
   where
     flat : (told : Option (List ℕ)) → is_owner told pid ≡ owner_from (option_map (λ owner. Some owner) told) false pid
     flat None = refl
@@ -177,16 +221,16 @@ owners_known rows later net of of' known known' one unknown filled more old n pi
 
     at : (b : Bool) → is_eq (name_cmp net n) ≡ b
         → (not (contains name_cmp known n) && has_row rows (key.Prefix n pid prefix))
-        ≡ owner_from (option_map (λ owner. Some owner) (owner_told (rows_in rows (span.Prefixes net)) (place_of n prefix)))
+        ≡ owner_from (option_map (λ owner. Some owner) (told_in (rows_in rows (span.Prefixes net)) (place_of n prefix)))
         (not (cond b true (contains name_cmp known n)) && has_row rows (key.Prefix n pid prefix)) pid
     at true e =
         rw (← one_name net n (same_name_ties net n ∙ e), unknown)
-        (told_here rows net pid prefix one ∙ flat (owner_told (rows_in rows (span.Prefixes net)) (place_of net prefix)))
+        (told_here rows net pid prefix one ∙ flat (told_in (rows_in rows (span.Prefixes net)) (place_of net prefix)))
     at false e = rw (told_elsewhere rows net n prefix one (same_name_ties net n ∙ e)) refl
 
     by : (g : Option (Option (List ℕ)))
         → owner_from g (not (contains name_cmp known n) && has_row rows (key.Prefix n pid prefix)) pid
-        ≡ owner_from (kept_or g (owner_told (rows_in rows (span.Prefixes net)) (place_of n prefix)))
+        ≡ owner_from (kept_or g (told_in (rows_in rows (span.Prefixes net)) (place_of n prefix)))
         (not (cond (is_eq (name_cmp net n)) true (contains name_cmp known n)) && has_row rows (key.Prefix n pid prefix)) pid
     by (Some o) = refl
     by None = at (is_eq (name_cmp net n)) refl
@@ -211,7 +255,7 @@ one_owner_later rows later of known own one net first second prefix f s =
 
 -- after a prefix is put in a PID
 owners_put : (rows later : Rows) (n p : List ℕ) (x : Prefix) (w : Value) (of of' : BTreeMap Place (Option (List ℕ))) (known : BTreeSet (List ℕ))
-    → GivesAlone later (key.Prefix n p x) → AreOwners rows later of known → map.Updates place_cmp of of' (place_of n x) (Some (Some p))
+    → GivesAlone later (key.Prefix n p x) → AreOwners rows later of known → maps.Updates place_cmp of of' (place_of n x) (Some (Some p))
     → (net pid : List ℕ) (prefix : Prefix)
     → is_some (cond (is_eq (key_cmp (key.Prefix net pid prefix) (key.Prefix n p x))) (Some w) (value_of later (key.Prefix net pid prefix)))
     ≡ owner_from (get place_cmp of' (place_of net prefix)) (not (contains name_cmp known net) && has_row rows (key.Prefix net pid prefix)) pid
@@ -233,7 +277,7 @@ owners_put rows later n p x w of of' known alone old change net pid prefix =
 
 -- after a prefix that was in a PID is deleted
 owners_gone : (rows later : Rows) (n p : List ℕ) (x : Prefix) (of of' : BTreeMap Place (Option (List ℕ))) (known : BTreeSet (List ℕ))
-    → HaveOneOwner later → has_row later (key.Prefix n p x) ≡ true → AreOwners rows later of known → map.Updates place_cmp of of' (place_of n x) (Some None)
+    → HaveOneOwner later → has_row later (key.Prefix n p x) ≡ true → AreOwners rows later of known → maps.Updates place_cmp of of' (place_of n x) (Some None)
     → (net pid : List ℕ) (prefix : Prefix)
     → is_some (cond (is_eq (key_cmp (key.Prefix net pid prefix) (key.Prefix n p x))) None (value_of later (key.Prefix net pid prefix)))
     ≡ owner_from (get place_cmp of' (place_of net prefix)) (not (contains name_cmp known net) && has_row rows (key.Prefix net pid prefix)) pid
@@ -323,7 +367,7 @@ kept_none (Some o) = refl
 
 -- one that is told, where none is kept of its prefix
 pub filled_one : (of all : BTreeMap Place (Option (List ℕ))) (place : Place) (owner : List ℕ) → is_some (get place_cmp of place) ≡ false
-    → map.Updates place_cmp of all place (Some (Some owner)) → HasFilledWith ((place, owner) ∷ []) of all
+    → maps.Updates place_cmp of all place (Some (Some owner)) → HasFilled ((place, owner) ∷ []) of all
 filled_one of all place owner none put at =
     put.0 at ∙ rw (place_back at place) (by (is_eq (place_cmp place at)) refl (get place_cmp of at) refl)
   where
@@ -339,7 +383,7 @@ filled_one of all place owner none put at =
 
 -- and where one is kept, nothing changes
 pub filled_kept : (of : BTreeMap Place (Option (List ℕ))) (place : Place) (owner : List ℕ) → is_some (get place_cmp of place) ≡ true
-    → HasFilledWith ((place, owner) ∷ []) of of
+    → HasFilled ((place, owner) ∷ []) of of
 filled_kept of place owner some at = rw (place_back at place) (by (is_eq (place_cmp place at)) refl (get place_cmp of at) refl)
   where
     by : (b : Bool) → is_eq (place_cmp place at) ≡ b → (g : Option (Option (List ℕ))) → get place_cmp of at ≡ g
@@ -352,25 +396,20 @@ filled_kept of place owner some at = rw (place_back at place) (by (is_eq (place_
     by false e None f = refl
     by false e (Some o) f = refl
 
--- one row after another
-pub filled_more : (left rest : Rows) (row : Key × Value) (all all' : BTreeMap Place (Option (List ℕ))) (whole : Place → Option (Option (List ℕ)))
-    → left ≡ row ∷ rest → HasFilled (row ∷ []) all all'
+-- one after another
+pub filled_more : (left rest : List (Place × List ℕ)) (place : Place) (owner : List ℕ) (all all' : BTreeMap Place (Option (List ℕ)))
+    (whole : Place → Option (Option (List ℕ))) → left ≡ (place, owner) ∷ rest → HasFilled ((place, owner) ∷ []) all all'
     → ((at : Place) → kept_or (get place_cmp all at) (owner_told left at) ≡ whole at)
     → (at : Place) → kept_or (get place_cmp all' at) (owner_told rest at) ≡ whole at
-filled_more left rest row all all' whole first filled before at =
-    rw (filled at) (by (owner_in row) refl (get place_cmp all at) ∙ there)
+filled_more left rest place owner all all' whole first filled before at =
+    rw (filled at) (tie (is_eq (place_cmp at place)) (get place_cmp all at) ∙ there)
   where
-    there : kept_or (get place_cmp all at) (owner_told (row ∷ rest) at) ≡ whole at
-    there = ap (λ (rows : Rows). kept_or (get place_cmp all at) (owner_told rows at)) (sym first) ∙ before at
+    there : kept_or (get place_cmp all at) (owner_told ((place, owner) ∷ rest) at) ≡ whole at
+    there = ap (λ (told : List (Place × List ℕ)). kept_or (get place_cmp all at) (owner_told told at)) (sym first) ∙ before at
 
-    tie : (b : Bool) (o : List ℕ) (g : Option (Option (List ℕ)))
-        → kept_or (kept_or g (cond b (Some o) None)) (owner_told rest at) ≡ kept_or g (cond b (Some o) (owner_told rest at))
-    tie true o None = refl
-    tie true o (Some h) = refl
-    tie false o None = refl
-    tie false o (Some h) = refl
-
-    by : (told : Option (Place × List ℕ)) → owner_in row ≡ told → (g : Option (Option (List ℕ)))
-        → kept_or (kept_or g (owner_told (row ∷ []) at)) (owner_told rest at) ≡ kept_or g (owner_told (row ∷ rest) at)
-    by None e g = rw (e, kept_none g) refl
-    by (Some told) e g = rw e (tie (is_eq (place_cmp at told.0)) told.1 g)
+    tie : (b : Bool) (g : Option (Option (List ℕ)))
+        → kept_or (kept_or g (cond b (Some owner) None)) (owner_told rest at) ≡ kept_or g (cond b (Some owner) (owner_told rest at))
+    tie true None = refl
+    tie true (Some h) = refl
+    tie false None = refl
+    tie false (Some h) = refl

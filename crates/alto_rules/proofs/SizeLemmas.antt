@@ -1,7 +1,7 @@
 -- The sizes of a draft stay true under a write.
 use Rattle.std.proofs.Common.{◌≡◌, refl, ap, sym, ◌∙◌, arith, suc}
 use Rattle.std.proofs.lemmas.Cmp.{eq_by_cmp_equiv}
-use Rattle.std.specs.Prelude.{ℕ, ◌+◌, ◌-◌, Bool, true, false, cond, ◌&&◌, List, [], ◌∷◌, filter, length, Option, Some, None, is_some}
+use Rattle.std.specs.Prelude.{ℕ, ◌+◌, Bool, true, false, cond, ◌&&◌, [], ◌∷◌, filter, length, Option, Some, None, is_some}
 use Rattle.std.specs.BTreeMap as map
 use Rattle.std.specs.BTreeMap.{BTreeMap}
 use Rattle.std.specs.Option.{unwrap_or}
@@ -12,9 +12,9 @@ use Rattle.alto_rows.specs.declared.key.Key.{Key}
 use Rattle.alto_rows.specs.declared.key.Key.TheVariants as key
 use Rattle.alto_rows.specs.declared.value.Value.{Value}
 use Rattle.alto_rows.specs.Order.{key_cmp, name_cmp}
-use Rattle.alto_rows.specs.Rows.{Rows, AreSorted, has_row, value_of, with_value}
+use Rattle.alto_rows.specs.Rows.{Rows, AreSorted, has_row, with_value}
 use Rattle.alto_rows.specs.Span.{is_in, count_in}
-use Rattle.alto_rows.proofs.OrderLemmas.{key_cmp_exact, one_key}
+use Rattle.alto_rows.proofs.OrderLemmas.{one_key}
 use Rattle.alto_rows.proofs.RowsLemmas.{past_first, past_lesser, sorted_rest, value_of-past}
 use Rattle.alto_rows.proofs.TouchesLemmas.{both_ties, same_name_ties}
 use Rattle.alto_rules.specs.declared.counted.Counted.{Counted}

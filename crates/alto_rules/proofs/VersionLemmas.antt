@@ -5,11 +5,12 @@ use Rattle.std.proofs.lemmas.List.Folds.{list_any-append}
 use Rattle.std.proofs.lemmas.List.Kept.{IsStrictlySortedBy-filter}
 use Rattle.std.proofs.lemmas.Map.Lookups.{btree_set_from_contains}
 use Rattle.std.proofs.lemmas.Map.Views.{any-filter_same}
-use Rattle.std.specs.Prelude.{ℕ, Bool, true, false, cond, ◌||◌, ◌&&◌, List, [], ◌∷◌, filter, Some, None, is_some}
+use Rattle.std.specs.Prelude.{ℕ, Bool, true, false, cond, ◌||◌, ◌&&◌, List, [], ◌∷◌, filter, None, is_some}
 use Rattle.std.specs.BTreeMap.{is_at}
 use Rattle.std.specs.BTreeSet as set
 use Rattle.std.specs.BTreeSet.{BTreeSet, IsOrdered, contains}
 use Rattle.std.specs.List.{filter_map, flat_map, list_any}
+use Rattle.std.specs.Map.{keys_of}
 use Rattle.std.specs.Ordering.{is_eq}
 use Rattle.std.specs.declared.cmp.Ordering.{Ordering}
 use Rattle.std.specs.declared.cmp.Ordering.TheVariants.{Less, Equal, Greater}
@@ -19,11 +20,11 @@ use Rattle.alto_rows.specs.declared.resource.Resource.{Resource}
 use Rattle.alto_rows.specs.declared.resource.Resource.TheVariants as resource
 use Rattle.alto_rows.specs.declared.value.Value.{Value}
 use Rattle.alto_rows.specs.declared.write.Write.{Write}
-use Rattle.alto_rows.specs.Order.{resource_cmp, name_cmp, net_of}
+use Rattle.alto_rows.specs.Order.{resource_cmp, name_cmp, net_of, same_name}
 use Rattle.alto_rows.specs.Rows.{Rows, AreSorted, value_of, has_row, after}
 use Rattle.alto_rows.specs.Span.{rows_in}
 use Rattle.alto_rows.specs.declared.span.Span.TheVariants as span
-use Rattle.alto_rows.specs.Touches.{is_net, is_resource, part_of, touches, versions_map}
+use Rattle.alto_rows.specs.Touches.{is_resource, part_of}
 use Rattle.alto_rows.specs.Versions.{cost_declared, is_declared, resources_of}
 use Rattle.alto_rows.proofs.OrderLemmas.{resource_cmp_exact, resource_cmp_total}
 use Rattle.alto_rows.proofs.ResourceLemmas.{costs_found, costs_kind, kind_apart, or_false, resources_found, resources_sorted}
@@ -31,8 +32,9 @@ use Rattle.alto_rows.proofs.TouchesLemmas.{none_part, same_name_ties}
 use Rattle.alto_rows.proofs.WithinLemmas.{value_of-rows_in}
 use Rattle.alto_rows.proofs.WriteLemmas.{sorted_after, value_of-after-none}
 use Rattle.alto_edits.specs.Versions.{is_written, is_touched}
-use Rattle.alto_rules.specs.Draft.{HasJoined, HasTouched, HaveNoVersions, dependents, is_among}
+use Rattle.alto_rules.specs.Draft.{HasJoined, HasTouched, HaveNoVersions, cost_of, costs_of, dependents, is_among}
 use Rattle.alto_rules.specs.Index.{is_part}
+use Rattle.alto_rules.specs.Withdrawal.{named_in, names_key}
 
 -- ---- writes of no versions
 
@@ -150,14 +152,26 @@ moved all all' more one left h =
     by true false = refl
     by false t = refl
 
--- the cost map of the first row that was left is there
-pub with_cost : (all all' : BTreeSet Resource) (left rest : Rows) (row : Key × Value) (cost : Resource) (whole : Resource → Bool)
-    → left ≡ row ∷ rest → Some cost ≡ cost_declared row → set.Updates resource_cmp all all' cost true
-    → ((one : Resource) → (contains resource_cmp all one || is_among one (filter_map cost_declared left)) ≡ whole one)
-    → (one : Resource) → (contains resource_cmp all' one || is_among one (filter_map cost_declared rest)) ≡ whole one
-with_cost all all' left rest row cost whole first is more before one =
-    let there : (contains resource_cmp all one || (is_eq (resource_cmp one cost) || is_among one (filter_map cost_declared rest))) ≡ whole one = rw (first, ← is) at before one in
-    moved all all' cost one (is_among one (filter_map cost_declared rest)) more ∙ there
+-- the cost maps of the keys of a network's metrics are those that the rows declare
+pub metrics_named : (rows : Rows) (net : List ℕ) → filter_map cost_of (named_in rows (span.Metrics net) (key.Net net)) ≡ costs_of rows net
+metrics_named [] net = refl
+metrics_named (row ∷ rows) net = by row.0 row.1 (metrics_named rows net)
+  where
+    tie : (of metric : List ℕ) (v : Value) (b : Bool) → same_name net of ≡ b
+        → filter_map cost_of (named_in rows (span.Metrics net) (key.Net net)) ≡ costs_of rows net
+        → filter_map cost_of (filter (names_key (key.Net net)) (keys_of (cond b ((key.Metric of metric, v) ∷ rows_in rows (span.Metrics net)) (rows_in rows (span.Metrics net)))))
+        ≡ filter_map cost_declared (cond b ((key.Metric of metric, v) ∷ rows_in rows (span.Metrics net)) (rows_in rows (span.Metrics net)))
+    tie of metric v true e below = rw e (ap (λ (all : List Resource). resource.Cost of metric ∷ all) below)
+    tie of metric v false e below = below
+
+    by : (at : Key) (v : Value) → filter_map cost_of (named_in rows (span.Metrics net) (key.Net net)) ≡ costs_of rows net
+        → filter_map cost_of (named_in ((at, v) ∷ rows) (span.Metrics net) (key.Net net)) ≡ costs_of ((at, v) ∷ rows) net
+    by (key.Metric of metric) v below = tie of metric v (same_name net of) refl below
+    by _ v below = below
+
+-- one cost map more
+pub cost_joined : (all all' : BTreeSet Resource) (more : Resource) → set.Updates resource_cmp all all' more true → HasJoined all (more ∷ []) all'
+cost_joined all all' more put one = sym (or_false (contains resource_cmp all' one)) ∙ moved all all' more one false put
 
 -- a network's map, its property map and its cost maps join one after another
 pub map_joined : (rows : Rows) (net : List ℕ) (first second third fourth : BTreeSet Resource)

@@ -1,10 +1,11 @@
 -- Which rows name what a key declares, and that the spans have them all.
-use Rattle.std.proofs.Common.{◌≡◌, refl, ap, sym, ◌∙◌}
+use Rattle.std.proofs.Common.{◌≡◌, refl, ap, sym, ◌∙◌, append_assoc}
 use Rattle.std.proofs.lemmas.Bool.{and_parts, both_ways, or_parts}
-use Rattle.std.specs.Prelude.{ℕ, Bool, true, false, cond, ◌&&◌, ◌||◌, List, [], ◌∷◌, map, Option, Some, None, is_some}
+use Rattle.std.specs.Prelude.{ℕ, Bool, true, false, cond, ◌&&◌, ◌||◌, List, [], ◌∷◌, ◌++◌, map, filter, Option, Some, None, is_some}
 use Rattle.std.specs.BTreeSet as set
 use Rattle.std.specs.BTreeSet.{BTreeSet, contains}
 use Rattle.std.specs.List.{list_any}
+use Rattle.std.specs.Map.{keys_of}
 use Rattle.std.specs.Ordering.{is_eq, ordering_then}
 use Rattle.alto_rows.specs.declared.entity.Entity.TheVariants as entity
 use Rattle.alto_rows.specs.declared.key.Key.{Key}
@@ -26,7 +27,7 @@ use Rattle.alto_edits.specs.Writes.{deleting, names, same_key, withdrawing}
 use Rattle.alto_rules.proofs.PickLemmas.{picked}
 use Rattle.alto_rows.proofs.WriteLemmas.{NoneWrites, value_of-after-none}
 use Rattle.alto_rules.specs.Draft.{Drafted, drafted_rows}
-use Rattle.alto_rules.specs.Withdrawal.{HasPicked, is_of, is_withdrawn, is_written_key, names_key, spans_of, withdraws}
+use Rattle.alto_rules.specs.Withdrawal.{HasPicked, has_key, is_of, is_withdrawn, is_written_key, named_in, names_key, spans_of, withdraws}
 
 -- ---- a row names by its key
 
@@ -156,24 +157,42 @@ spans_reach _ at w h = cc
 
 -- ---- keys picked one after another
 
--- a key is one of those that are left, or of those behind
-pub picked_more : (test these those whole : Key → Bool) (one : Key → Bool) (all all' : BTreeSet Key)
-    → ((at : Key) → these at ≡ (one at || those at)) → HasPicked test one all all'
-    → ((at : Key) → (contains key_cmp all at || (test at && these at)) ≡ whole at)
-    → (at : Key) → (contains key_cmp all' at || (test at && those at)) ≡ whole at
-picked_more test these those whole one all all' parts picked before at =
-    rw (picked at) (mixed (contains key_cmp all at) (test at) (one at) (those at)) ∙ (ap (λ b. contains key_cmp all at || (test at && b)) (sym (parts at)) ∙ before at)
+-- the keys of rows that pass a test
+has_key-filter : (test : Key → Bool) (rows : Rows) (at : Key) → has_key (filter test (keys_of rows)) at ≡ (test at && has_row rows at)
+has_key-filter test [] at = sym (and_false (test at))
+has_key-filter test (row ∷ rows) at =
+    rw (same_key_back at row.0) (by (has_key-filter test rows at) (test row.0) refl (is_eq (key_cmp row.0 at)) refl)
   where
-    mixed : (a t o r : Bool) → ((a || (t && o)) || (t && r)) ≡ (a || (t && (o || r)))
-    mixed true t o r = refl
-    mixed false true o r = refl
-    mixed false false o r = refl
+    by : has_key (filter test (keys_of rows)) at ≡ (test at && has_row rows at) → (t : Bool) → test row.0 ≡ t → (b : Bool) → is_eq (key_cmp row.0 at) ≡ b
+        → has_key (cond t (row.0 ∷ filter test (keys_of rows)) (filter test (keys_of rows))) at
+        ≡ (test at && is_some (cond b (Some row.1) (value_of rows at)))
+    by below true e true f = rw (f, ← one_key row.0 at f, e) refl
+    by below true e false f = rw f below
+    by below false e true f = below ∙ rw (← one_key row.0 at f, e) refl
+    by below false e false f = below
 
--- the first of some rows, or one behind
-pub first_row_has : (row : Key × Value) (rows : Rows) (at : Key) → has_row (row ∷ rows) at ≡ (is_eq (key_cmp row.0 at) || has_row rows at)
-first_row_has row rows at = rw (same_key_back row.0 at) (by (is_eq (key_cmp at row.0)))
+-- so of what is withdrawn the keys of a span that name what is declared are those with a row there
+pub picked_named : (later rows : Rows) (span : Span) (declared : Key) (all all' : BTreeSet Key)
+    → HasPicked (is_withdrawn later declared) (has_key (named_in rows span declared)) all all'
+    → HasPicked (is_withdrawn later declared) (has_row (rows_in rows span)) all all'
+picked_named later rows span declared all all' picked at =
+    picked at
+    ∙ rw (has_key-filter (names_key declared) (rows_in rows span) at)
+    (ap (λ b. contains key_cmp all at || b) (twice (names_key declared at) (has_row later at) (has_row (rows_in rows span) at)))
   where
-    by : (b : Bool) → is_some (cond b (Some row.1) (value_of rows at)) ≡ (b || has_row rows at)
+    twice : (n l r : Bool) → ((n && l) && (n && r)) ≡ ((n && l) && r)
+    twice true l r = refl
+    twice false l r = refl
+
+-- one key more is named, or isn't
+pub named_more : (test : Key → Bool) (keys all : List Key) (left rest : Rows) (row : Key × Value) (whole : List Key)
+    → left ≡ row ∷ rest → all ≡ keys ++ filter test (row.0 ∷ []) → keys ++ filter test (keys_of left) ≡ whole
+    → all ++ filter test (keys_of rest) ≡ whole
+named_more test keys all left rest row whole first more before =
+    rw more (append_assoc keys (filter test (row.0 ∷ [])) (filter test (keys_of rest)))
+    ∙ (ap (λ (last : List Key). keys ++ last) (by (test row.0)) ∙ (ap (λ (rows : Rows). keys ++ filter test (keys_of rows)) (sym first) ∙ before))
+  where
+    by : (b : Bool) → cond b (row.0 ∷ []) [] ++ filter test (keys_of rest) ≡ cond b (row.0 ∷ filter test (keys_of rest)) (filter test (keys_of rest))
     by true = refl
     by false = refl
 
@@ -257,12 +276,6 @@ all_withdrawn draft declared at s w = by (names_key declared at) refl (is_writte
     by true e false h =
         rw (span_has draft.rows at (spans_of declared), spans_reach declared at w e)
         (unwritten (ap is_some (value_of-after-none draft.rows draft.writes at s (none_writes at draft.writes h))))
-
--- where none are left
-pub picked_end : (a t : Bool) → (a || (t && false)) ≡ a
-picked_end true t = refl
-picked_end false true = refl
-picked_end false false = refl
 
 -- such keys in order are deleted as all rows are that name what is declared
 pub withdrawn_all : (later : Rows) (declared : Key) (all : BTreeSet Key) → withdraws declared ≡ true → AreSorted later → set.IsOrdered key_cmp all

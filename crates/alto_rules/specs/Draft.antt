@@ -1,5 +1,5 @@
 -- A draft of a batch: the rows that it is made for and the writes so far.
-use Rattle.std.specs.Prelude.{◌≡◌, ℕ, Bool, true, false, ◌&&◌, ◌||◌, not, List, [], ◌∷◌, ◌++◌, map, None, Option, Some}
+use Rattle.std.specs.Prelude.{◌≡◌, ℕ, Bool, true, false, ◌&&◌, ◌||◌, List, [], ◌∷◌, ◌++◌, None, Option, Some}
 use Rattle.std.specs.List.{AllByRecursion, filter_map, list_any}
 use Rattle.std.specs.BTreeMap.{is_at}
 use Rattle.std.specs.BTreeSet.{BTreeSet, contains}
@@ -12,7 +12,7 @@ use Rattle.alto_rows.specs.declared.span.Span.TheVariants as span
 use Rattle.alto_rows.specs.declared.value.Value.{Value}
 use Rattle.alto_rows.specs.declared.write.Write.{Write}
 use Rattle.alto_rows.specs.Order.{resource_cmp, same_name}
-use Rattle.alto_rows.specs.Rows.{Rows, AreSorted, has_row, after}
+use Rattle.alto_rows.specs.Rows.{Rows, has_row, after}
 use Rattle.alto_rows.specs.Span.{rows_in}
 use Rattle.alto_rows.specs.Touches.{versions_map}
 use Rattle.alto_rows.specs.Versions.{cost_declared, is_declared}
@@ -66,6 +66,11 @@ HasOwner rows net prefix owner = (pid : List ℕ) → has_row rows (key.Prefix n
 -- a write
 abbrev pub writing : Key → Option Value → Write
 writing at v = record { key = at; value = v }
+
+-- the cost map that a key declares
+abbrev pub cost_of : Key → Option Resource
+cost_of (key.Metric net metric) = Some (resource.Cost net metric)
+cost_of _ = None
 
 -- the cost maps of a network that the rows declare
 abbrev pub costs_of : Rows → List ℕ → List Resource

@@ -1,7 +1,6 @@
 -- Which PID has a prefix of a network after writes.
 use Rattle.std.specs.Prelude.{◌≡◌, ℕ, Bool, true, false, ◌&&◌, not, List, Option, Some, None, option_map}
 use Rattle.std.specs.BTreeMap.{BTreeMap, Updates, get, is_at}
-use Rattle.std.specs.List.{filter_map}
 use Rattle.std.specs.Map.{lookup}
 use Rattle.std.specs.BTreeSet.{BTreeSet, contains}
 use Rattle.std.specs.Ordering.{ordering_then}
@@ -10,7 +9,6 @@ use Rattle.alto_addr.specs.declared.prefix.Prefix.{Prefix}
 use Rattle.alto_addr.specs.Order.{prefix_cmp}
 use Rattle.alto_rows.specs.declared.key.Key.{Key}
 use Rattle.alto_rows.specs.declared.key.Key.TheVariants as key
-use Rattle.alto_rows.specs.declared.value.Value.{Value}
 use Rattle.alto_rows.specs.Order.{name_cmp}
 use Rattle.alto_rows.specs.Rows.{Rows, has_row}
 use Rattle.alto_rules.specs.declared.place.Place.{Place}
@@ -44,18 +42,22 @@ owner_left (key.Prefix net pid prefix) true false = Some (place_of net prefix, N
 owner_left _ _ _ = None
 
 -- the owners after such a change
-abbrev pub HasChanged : Option (Place × Option (List ℕ)) → BTreeMap Place (Option (List ℕ)) → BTreeMap Place (Option (List ℕ)) → Type 0
+abbrev pub HasChanged : Option (Place × Option (List ℕ)) → BTreeMap Place (Option (List ℕ))
+    → BTreeMap Place (Option (List ℕ)) → Type 0
 HasChanged None earlier later = later ≡ earlier
 HasChanged (Some change) earlier later = Updates place_cmp earlier later change.0 (Some change.1)
 
--- the prefix that a row gives a PID, and this PID
-abbrev pub owner_in : Key × Value → Option (Place × List ℕ)
-owner_in (key.Prefix net pid prefix, v) = Some (place_of net prefix, pid)
-owner_in _ = None
+-- a prefix of a network with its PID, by its place
+abbrev pub placed : List ℕ → Prefix × List ℕ → Place × List ℕ
+placed net told = (place_of net told.0, told.1)
 
--- the owner that rows tell of a prefix
-abbrev pub owner_told : Rows → Place → Option (List ℕ)
-owner_told rows at = lookup (is_at (place_cmp at)) (filter_map owner_in rows)
+-- the owner that is told of a prefix
+abbrev pub owner_told : List (Place × List ℕ) → Place → Option (List ℕ)
+owner_told told at = lookup (is_at (place_cmp at)) told
+
+-- the PID of a prefix among prefixes with their PIDs
+abbrev pub owner_among : List (Prefix × List ℕ) → Prefix → Option (List ℕ)
+owner_among told prefix = lookup (is_at (prefix_cmp prefix)) told
 
 -- the owner that is kept, or else the one that is told
 abbrev pub kept_or : Option (Option (List ℕ)) → Option (List ℕ) → Option (Option (List ℕ))
@@ -63,10 +65,7 @@ kept_or (Some owner) told = Some owner
 kept_or None told = option_map (λ owner. Some owner) told
 
 -- the later owners are those that were kept, and of all other prefixes those that are told
-abbrev pub HasFilledWith : List (Place × List ℕ) → BTreeMap Place (Option (List ℕ)) → BTreeMap Place (Option (List ℕ)) → Type 0
-HasFilledWith told earlier later =
-    (at : Place) → get place_cmp later at ≡ kept_or (get place_cmp earlier at) (lookup (is_at (place_cmp at)) told)
-
--- and those that rows tell
-abbrev pub HasFilled : Rows → BTreeMap Place (Option (List ℕ)) → BTreeMap Place (Option (List ℕ)) → Type 0
-HasFilled rows earlier later = HasFilledWith (filter_map owner_in rows) earlier later
+abbrev pub HasFilled : List (Place × List ℕ) → BTreeMap Place (Option (List ℕ))
+    → BTreeMap Place (Option (List ℕ)) → Type 0
+HasFilled told earlier later =
+    (at : Place) → get place_cmp later at ≡ kept_or (get place_cmp earlier at) (owner_told told at)

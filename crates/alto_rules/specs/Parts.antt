@@ -6,7 +6,6 @@ use Rattle.alto_rows.specs.declared.key.Key.TheVariants as key
 use Rattle.alto_rows.specs.declared.span.Span.TheVariants as span
 use Rattle.alto_rows.specs.declared.value.Value.{Value}
 use Rattle.alto_rows.specs.declared.value.Value.TheVariants as value
-use Rattle.alto_rows.specs.Order.{same_name}
 use Rattle.alto_rows.specs.Rows.{Rows, has_row}
 use Rattle.alto_rows.specs.Span.{count_in}
 use Rattle.alto_edits.specs.declared.edit.Edit.{Edit}
@@ -80,6 +79,14 @@ edit_value (edit.AneSet net ane name number) = Some (value.Num number)
 edit_value (edit.PathPut net source destination anes) = Some (value.Names anes)
 edit_value (edit.PathDel net source destination) = None
 edit_value _ = Some value.Unit
+
+-- an edit has one write: it withdraws nothing and puts no prefix
+abbrev pub has_one_write : Edit → Bool
+has_one_write (edit.NetDrop net) = false
+has_one_write (edit.PidDrop net pid) = false
+has_one_write (edit.MetricDrop net metric) = false
+has_one_write (edit.PrefixPut net pid prefix) = false
+has_one_write _ = true
 
 -- the checks of an edit besides those of its network and its PIDs
 abbrev pub own_checks : Rows → Edit → List Check

@@ -1,5 +1,5 @@
 -- How many rows there are after writes: all, and those of each span that a rule limits.
-use Rattle.std.specs.Prelude.{◌≡◌, ◌+◌, ◌-◌, ℕ, Bool, true, false, cond, List, length, Option, Some, None}
+use Rattle.std.specs.Prelude.{◌≡◌, ◌+◌, ◌-◌, ℕ, Bool, true, false, nat_le, length, Option, Some, None}
 use Rattle.std.specs.BTreeMap.{BTreeMap, Updates, get}
 use Rattle.std.specs.Option.{unwrap_or}
 use Rattle.std.specs.Ordering.{nat_cmp, ordering_then}
@@ -31,6 +31,15 @@ counted_of (key.Prefix net pid prefix) = Some (counted.Prefixes net)
 counted_of (key.Metric net metric) = Some (counted.Metrics net)
 counted_of (key.Cost net metric source destination) = Some (counted.Costs net metric)
 counted_of _ = None
+
+-- there are as many as may be of what is counted, if anything is
+abbrev pub is_full_of : Rows → Option Counted → ℕ → Bool
+is_full_of rows None most = false
+is_full_of rows (Some one) most = nat_le most (count_in rows (span_of one))
+
+-- there are as many as may be of what a key counts for
+abbrev pub is_full : Rows → Key → ℕ → Bool
+is_full rows at most = is_full_of rows (counted_of at) most
 
 -- the number of a kind of what is counted
 abbrev pub counted_kind : Counted → ℕ

@@ -1,7 +1,8 @@
 -- Which keys go with the key of a network, a PID or a metric, and in which spans they are.
-use Rattle.std.specs.Prelude.{◌≡◌, ℕ, Bool, true, false, ◌&&◌, ◌||◌, List, [], ◌∷◌}
+use Rattle.std.specs.Prelude.{◌≡◌, ℕ, Bool, true, false, ◌&&◌, ◌||◌, List, [], ◌∷◌, filter}
 use Rattle.std.specs.BTreeSet.{BTreeSet, contains}
 use Rattle.std.specs.List.{list_any}
+use Rattle.std.specs.Map.{keys_of}
 use Rattle.std.specs.Ordering.{is_eq}
 use Rattle.alto_rows.specs.declared.entity.Entity.{Entity}
 use Rattle.alto_rows.specs.declared.entity.Entity.TheVariants as entity
@@ -12,6 +13,7 @@ use Rattle.alto_rows.specs.declared.span.Span.{Span}
 use Rattle.alto_rows.specs.declared.span.Span.TheVariants as span
 use Rattle.alto_rows.specs.Order.{key_cmp, same_name}
 use Rattle.alto_rows.specs.Rows.{Rows, has_row}
+use Rattle.alto_rows.specs.Span.{rows_in}
 
 -- a key that edits withdraw with all that names it
 abbrev pub withdraws : Key → Bool
@@ -59,6 +61,14 @@ is_withdrawn rows declared at = names_key declared at && has_row rows at
 -- some write is of the key
 abbrev pub is_written_key : List Write → Key → Bool
 is_written_key writes at = list_any (λ write. is_eq (key_cmp write.key at)) writes
+
+-- some of these keys is the key
+abbrev pub has_key : List Key → Key → Bool
+has_key these at = list_any (λ one. is_eq (key_cmp one at)) these
+
+-- the keys of a span that have rows and name what a key declares
+abbrev pub named_in : Rows → Span → Key → List Key
+named_in rows span declared = filter (names_key declared) (keys_of (rows_in rows span))
 
 -- the spans that have all keys which can name what a key declares
 abbrev pub spans_of : Key → List Span

@@ -1,18 +1,17 @@
-ghost use Rattle.std.specs.Prelude.{◌≡◌, ◌∷◌, ◌&&◌, [], nat_le, IfOk};
+ghost use Rattle.std.specs.Prelude.{◌≡◌, ◌∷◌, ◌&&◌, [], IfOk};
 ghost use Rattle.std.specs.List.{list_any};
 ghost use Rattle.alto_rows.specs.declared.key.Key.TheVariants as keys;
 ghost use Rattle.alto_rows.specs.Rows.{has_row};
-ghost use Rattle.alto_rows.specs.Span.{count_in};
-ghost use Rattle.alto_rows.specs.declared.span.Span.TheVariants as span;
 ghost use Rattle.alto_edits.specs.declared.rule.Rule.TheVariants as rule;
 ghost use Rattle.alto_edits.specs.Rules.{broken_rule, entity_pids, first_broken, lacks};
 ghost use Rattle.alto_edits.specs.Writes.{is_free};
 ghost use Rattle.alto_rules.specs.Draft.{drafted_rows};
 ghost use Rattle.alto_rules.specs.Parts.{edit_net, edit_pids, own_checks};
-ghost use Rattle.alto_rules.specs.Sizes.{span_of};
+ghost use Rattle.alto_rules.specs.Sizes.{is_full};
 
-use crate::counted::Counted;
+use crate::counted::counted_of;
 use crate::draft::Draft;
+use crate::keys::{ane_key, metric_key, net_key, pid_key};
 use crate::parts::{edit_key, edit_net};
 use alto_addr::Prefix;
 use alto_edits::{Edit, Rule};
@@ -54,7 +53,8 @@ impl<'a, R: RowStore> Draft<'a, R> {
 
     /// Whether some PID isn't declared that has to be for an edit.
     fn lacks_pids(&self, edit: &Edit) -> Result<bool, AllocError>
-        ensures { IfOk result (λ is. is ≡ list_any (λ pid. lacks (drafted_rows self.now) (keys.Pid (edit_net edit.now) pid)) (edit_pids edit.now)) }
+        ensures { IfOk result (λ is. is
+            ≡ list_any (λ pid. lacks (drafted_rows self.now) (keys.Pid (edit_net edit.now) pid)) (edit_pids edit.now)) }
     {
         let net = edit_net(edit);
         match edit {
@@ -93,17 +93,11 @@ impl<'a, R: RowStore> Draft<'a, R> {
     {
         let key = edit_key(edit)?;
         match edit {
-            Edit::NetAdd { .. } => self.added(&key, Rule::G1, Counted::Nets, MOST_NETS, Rule::G2),
-            Edit::PidAdd { net, .. } => {
-                let counted = Counted::Pids(net.clone()?);
-                self.added(&key, Rule::G4, counted, MOST_PIDS, Rule::G5)
-            }
-            Edit::PrefixPut { net, prefix, .. } => self.prefix_rule(net, prefix),
+            Edit::NetAdd { .. } => self.added(&key, Rule::G1, MOST_NETS, Rule::G2),
+            Edit::PidAdd { .. } => self.added(&key, Rule::G4, MOST_PIDS, Rule::G5),
+            Edit::PrefixPut { net, prefix, .. } => self.prefix_rule(&key, net, prefix),
             Edit::PrefixDel { .. } => Ok(self.lacking(&key, Rule::G8)),
-            Edit::MetricAdd { net, .. } => {
-                let counted = Counted::Metrics(net.clone()?);
-                self.added(&key, Rule::G9, counted, MOST_METRICS, Rule::G10)
-            }
+            Edit::MetricAdd { .. } => self.added(&key, Rule::G9, MOST_METRICS, Rule::G10),
             Edit::MetricDrop { .. } => Ok(self.lacking(&key, Rule::G11)),
             Edit::CostPut { net, metric, .. } => self.cost_rule(&key, net, metric),
             Edit::CostDel { net, metric, .. } => self.cost_gone_rule(&key, net, metric),
@@ -119,19 +113,22 @@ impl<'a, R: RowStore> Draft<'a, R> {
     fn has_net(&self, net: &NetName) -> Result<bool, AllocError>
         ensures { IfOk result (λ has. has ≡ has_row (drafted_rows self.now) (keys.Net net.now)) }
     {
-        Ok(self.has(&Key::Net(net.clone()?)))
+        let key = net_key(net)?;
+        Ok(self.has(&key))
     }
 
     /// Whether a PID isn't declared.
     fn lacks_pid(&self, net: &NetName, pid: &PidName) -> Result<bool, AllocError>
         ensures { IfOk result (λ is. is ≡ lacks (drafted_rows self.now) (keys.Pid net.now pid.now)) }
     {
-        Ok(!self.has(&Key::Pid(net.clone()?, pid.clone()?)))
+        let key = pid_key(net, pid)?;
+        Ok(!self.has(&key))
     }
 
     /// Whether the PID that an entity names isn't declared.
     fn lacks_entity(&self, net: &NetName, entity: &Entity) -> Result<bool, AllocError>
-        ensures { IfOk result (λ is. is ≡ list_any (λ pid. lacks (drafted_rows self.now) (keys.Pid net.now pid)) (entity_pids entity.now)) }
+        ensures { IfOk result (λ is. is
+            ≡ list_any (λ pid. lacks (drafted_rows self.now) (keys.Pid net.now pid)) (entity_pids entity.now)) }
     {
         match entity {
             Entity::Block(_) => Ok(false),
@@ -143,14 +140,16 @@ impl<'a, R: RowStore> Draft<'a, R> {
     fn lacks_metric(&self, net: &NetName, metric: &Metric) -> Result<bool, AllocError>
         ensures { IfOk result (λ is. is ≡ lacks (drafted_rows self.now) (keys.Metric net.now metric.now)) }
     {
-        Ok(!self.has(&Key::Metric(net.clone()?, metric.clone()?)))
+        let key = metric_key(net, metric)?;
+        Ok(!self.has(&key))
     }
 
     /// Whether an abstract network element isn't declared.
     fn lacks_ane(&self, net: &NetName, ane: &AneName) -> Result<bool, AllocError>
         ensures { IfOk result (λ is. is ≡ lacks (drafted_rows self.now) (keys.Ane net.now ane.now)) }
     {
-        Ok(!self.has(&Key::Ane(net.clone()?, ane.clone()?)))
+        let key = ane_key(net, ane)?;
+        Ok(!self.has(&key))
     }
 
     /// The rule that is broken where a key has a row.
@@ -167,39 +166,52 @@ impl<'a, R: RowStore> Draft<'a, R> {
         if self.has(key) { None } else { Some(rule) }
     }
 
-    /// The first rule that is broken where a key has a row, or there are as many as may be of what is counted.
+    /// Whether there are as many as may be of what a key counts for.
+    fn is_full(&self, key: &Key, most: usize) -> Result<bool, AllocError>
+        ensures { IfOk result (λ is. is ≡ is_full (drafted_rows self.now) key.now most) }
+    {
+        match counted_of(key)? {
+            Some(counted) => Ok(self.count(&counted)? >= most),
+            None => Ok(false),
+        }
+    }
+
+    /// The first rule that is broken where a key has a row, or there are as many as may be of what it counts for.
     fn added(
         &self,
         key: &Key,
         known: Rule,
-        counted: Counted,
         most: usize,
         full: Rule,
     ) -> Result<Option<Rule>, AllocError>
         ensures { IfOk result (λ broken. broken ≡ first_broken (
             (known, has_row (drafted_rows self.now) key.now)
-            ∷ (full, nat_le most (count_in (drafted_rows self.now) (span_of counted))) ∷ [])) }
+            ∷ (full, is_full (drafted_rows self.now) key.now most) ∷ [])) }
     {
         if self.has(key) {
             return Ok(Some(known));
         }
-        let is_full = self.count(&counted)? >= most;
+        let is_full = self.is_full(key, most)?;
         Ok(if is_full { Some(full) } else { None })
     }
 
     /// The rule that a prefix breaks which is put where there are as many as may be.
-    fn prefix_rule(&self, net: &NetName, prefix: &Prefix) -> Result<Option<Rule>, AllocError>
+    fn prefix_rule(
+        &self,
+        key: &Key,
+        net: &NetName,
+        prefix: &Prefix,
+    ) -> Result<Option<Rule>, AllocError>
         ensures { IfOk result (λ broken. broken ≡ first_broken ((
           rule.G7,
-          is_free (drafted_rows self.now) net.now prefix.now
-              && nat_le 16384 (count_in (drafted_rows self.now) (span.Prefixes net.now)),
+          is_free (drafted_rows self.now) net.now prefix.now && is_full (drafted_rows self.now) key.now 16384,
         ) ∷ [])) }
     {
-        if !self.is_free(net, prefix)? {
+        if !self.is_full(key, MOST_PREFIXES)? {
             return Ok(None);
         }
-        let is_full = self.count(&Counted::Prefixes(net.clone()?))? >= MOST_PREFIXES;
-        Ok(if is_full { Some(Rule::G7) } else { None })
+        let is_free = self.is_free(net, prefix)?;
+        Ok(if is_free { Some(Rule::G7) } else { None })
     }
 
     /// The first rule that a cost breaks which is put.
@@ -213,19 +225,16 @@ impl<'a, R: RowStore> Draft<'a, R> {
             (rule.G11, lacks (drafted_rows self.now) (keys.Metric net.now metric.now))
             ∷ (
               rule.G12,
-              lacks (drafted_rows self.now) key.now
-                  && nat_le 262144 (count_in (drafted_rows self.now) (span.CostsIn net.now metric.now)),
+              lacks (drafted_rows self.now) key.now && is_full (drafted_rows self.now) key.now 262144,
             ) ∷ [])) }
     {
         if self.lacks_metric(net, metric)? {
             return Ok(Some(Rule::G11));
         }
-        if self.has(key) {
-            return Ok(None);
+        if self.is_full(key, MOST_COSTS)? {
+            return Ok(self.lacking(key, Rule::G12));
         }
-        let counted = Counted::Costs(net.clone()?, metric.clone()?);
-        let is_full = self.count(&counted)? >= MOST_COSTS;
-        Ok(if is_full { Some(Rule::G12) } else { None })
+        Ok(None)
     }
 
     /// The first rule that a cost breaks which is taken away.
@@ -247,7 +256,8 @@ impl<'a, R: RowStore> Draft<'a, R> {
 
     /// The rule that a property breaks of an abstract network element that isn't declared.
     fn ane_rule(&self, net: &NetName, ane: &AneName) -> Result<Option<Rule>, AllocError>
-        ensures { IfOk result (λ broken. broken ≡ first_broken ((rule.G15, lacks (drafted_rows self.now) (keys.Ane net.now ane.now)) ∷ [])) }
+        ensures { IfOk result (λ broken. broken
+            ≡ first_broken ((rule.G15, lacks (drafted_rows self.now) (keys.Ane net.now ane.now)) ∷ [])) }
     {
         let lacks = self.lacks_ane(net, ane)?;
         Ok(if lacks { Some(Rule::G15) } else { None })
@@ -255,7 +265,8 @@ impl<'a, R: RowStore> Draft<'a, R> {
 
     /// The rule that a path breaks some of whose abstract network elements aren't declared.
     fn anes_rule(&self, net: &NetName, anes: &AneNames) -> Result<Option<Rule>, AllocError>
-        ensures { IfOk result (λ broken. broken ≡ first_broken ((rule.G15, list_any (λ ane. lacks (drafted_rows self.now) (keys.Ane net.now ane)) anes.now) ∷ [])) }
+        ensures { IfOk result (λ broken. broken ≡ first_broken (
+            (rule.G15, list_any (λ ane. lacks (drafted_rows self.now) (keys.Ane net.now ane)) anes.now) ∷ [])) }
     {
         let lacks = self.lacks_anes(net, anes.as_slice())?;
         Ok(if lacks { Some(Rule::G15) } else { None })
@@ -263,7 +274,8 @@ impl<'a, R: RowStore> Draft<'a, R> {
 
     /// Whether some abstract network element isn't declared.
     fn lacks_anes(&self, net: &NetName, anes: &[AneName]) -> Result<bool, AllocError>
-        ensures { IfOk result (λ is. is ≡ list_any (λ ane. lacks (drafted_rows self.now) (keys.Ane net.now ane)) anes.now) }
+        ensures { IfOk result (λ is. is
+            ≡ list_any (λ ane. lacks (drafted_rows self.now) (keys.Ane net.now ane)) anes.now) }
     {
         for ane in anes {
             if self.lacks_ane(net, ane)? {

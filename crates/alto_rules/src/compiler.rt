@@ -22,12 +22,16 @@ const MOST_BATCHES: u32 = 4_096;
 /// How many writes those batches may have together.
 const MOST_WRITES: usize = 524_288;
 
+/// How many prefixes a batch puts by a walk over its network's prefixes for each, before it indexes them.
+const MOST_WALKS: usize = 32;
+
 /// The writes of a batch: those of its edits, each made in the rows after those before it, and then the version rows
 /// of what they touch. `past` is what is kept before the batch.
 ///
 /// Fails with the first rule that is broken, edit by edit, and of the batch as a whole after all edits. Costs some
 /// searches for each write. A withdrawal also walks the spans that can name what it withdraws and the keys written so
-/// far; the first `prefix-put` in a network walks the network's prefixes, and the version of a network's map its metrics.
+/// far; the version of a network's map walks its metrics, and each `prefix-put` the network's prefixes, or only the first
+/// in a network where the batch has more than 32.
 pub fn compile<R: RowStore>(
     alloc: Global,
     rows: &R,
@@ -59,9 +63,10 @@ fn drafted<'a, R: RowStore>(
     ensures ok { IfOk result (λ draft. edits_writes (R.rows rows.now) 1 edits.now ≡ Ok draft.writes) }
     ensures err { IfErr result (λ fault. fault ≢ CompileFault.Memory → edits_writes (R.rows rows.now) 1 edits.now ≡ Err fault) }
 {
+    let indexes = puts_many(edits);
     let mut draft = Draft::new(alloc, rows);
     for (index, edit) in edits.iter().enumerate() {
-        draft = prepared(draft, edit)?;
+        draft = prepared(draft, edit, indexes)?;
         if let Some(rule) = draft.broken_rule(edit)? {
             return Err(CompileFault::Broken {
                 row: index as u64 + 1,
@@ -73,12 +78,25 @@ fn drafted<'a, R: RowStore>(
     Ok(draft)
 }
 
-/// The same draft, which knows the owners of the prefixes of the network that an edit puts a prefix in.
-fn prepared<'a, R: RowStore>(draft: Draft<'a, R>, edit: &Edit) -> Result<Draft<'a, R>, AllocError>
+/// Whether edits put so many prefixes that an index of a network's prefixes costs less than a walk for each.
+fn puts_many(edits: &[Edit]) -> bool {
+    let puts = edits
+        .iter()
+        .filter(|edit| matches!(**edit, Edit::PrefixPut { .. }));
+    puts.count() > MOST_WALKS
+}
+
+/// The same draft, which knows the owners of the prefixes of the network that an edit puts a prefix in, where the batch
+/// indexes them.
+fn prepared<'a, R: RowStore>(
+    draft: Draft<'a, R>,
+    edit: &Edit,
+    indexes: bool,
+) -> Result<Draft<'a, R>, AllocError>
     ensures { IfOk result (λ same. same ≡ draft.entry) }
 {
     match edit {
-        Edit::PrefixPut { net, .. } => draft.knowing(net),
+        Edit::PrefixPut { net, .. } if indexes => draft.knowing(net),
         _ => Ok(draft),
     }
 }

@@ -6,7 +6,7 @@ use alto_rows::{Key, Span};
 use std::alloc::AllocError;
 
 /// Rows whose number a rule limits.
-#[derive(Clone, Debug, PartialEq, Eq, PartialOrd, Ord, Drop)]
+#[derive(PartialEq, Eq, PartialOrd, Ord, Drop)]
 pub enum Counted {
     /// The networks.
     Nets,

@@ -6,18 +6,18 @@ ghost use Rattle.alto_rows.specs.Rows.{AreSorted, has_row};
 ghost use Rattle.alto_rows.specs.Span.{count_in};
 ghost use Rattle.alto_edits.specs.Writes.{deleting, is_free, putting, taking, writes_of};
 ghost use Rattle.alto_rules.specs.Draft.{GivesAlone, HasOwner, HaveOneOwner, drafted_rows, opened, wrote, writing};
+ghost use Rattle.alto_rules.specs.Parts.{has_one_write};
 ghost use Rattle.alto_rules.specs.Sizes.{span_of};
 
 use crate::counted::Counted;
-use crate::index::Index;
-use crate::owners::Owners;
-use crate::parts::{edit_key, edit_value};
-use crate::place::Place;
-use crate::sizes::Sizes;
+use crate::kept::{Kept, has_row};
+use crate::keys::prefix_key;
+use crate::owners::{owner_before, place_of};
+use crate::parts::edit_value;
 use alto_addr::Prefix;
 use alto_edits::Edit;
 use alto_names::{NetName, PidName};
-use alto_rows::{Key, PackedPrefix, RowStore, Value, Write};
+use alto_rows::{Key, RowStore, Value, Write};
 use std::alloc::{AllocError, Global};
 use std::marker::Model;
 
@@ -26,9 +26,7 @@ use std::marker::Model;
 pub struct Draft<'a, R: RowStore> {
     pub rows: &'a R,
     pub writes: Vec<Write>,
-    pub index: Index,
-    pub sizes: Sizes,
-    pub owners: Owners,
+    pub kept: Kept,
 }
 
 impl<'a, R: RowStore> Model for Draft<'a, R> {
@@ -39,7 +37,7 @@ impl<'a, R: RowStore> Model for Draft<'a, R> {
 
     ghost view = { λ draft. record { rows = R.rows draft.rows.now; writes = draft.writes.items } };
 
-    ghost invariant = { λ draft. IsDraft (R.rows draft.rows.now) draft.writes.items draft.index draft.sizes draft.owners };
+    ghost invariant = { λ draft. IsDraft (R.rows draft.rows.now) draft.writes.items draft.kept };
 }
 
 impl<'a, R: RowStore> Draft<'a, R> {
@@ -52,9 +50,7 @@ impl<'a, R: RowStore> Draft<'a, R> {
         Draft {
             rows,
             writes: Vec::new(alloc),
-            index: Index::new(alloc),
-            sizes: Sizes::new(alloc, rows),
-            owners: Owners::new(alloc),
+            kept: Kept::new(alloc, rows),
         }
     }
 
@@ -62,24 +58,21 @@ impl<'a, R: RowStore> Draft<'a, R> {
     pub fn has(&self, key: &Key) -> bool
         ensures { result ≡ has_row (drafted_rows self.now) key.now }
     {
-        match self.index.has(key) {
-            Some(has) => has,
-            None => has_row(self.rows, key),
-        }
+        has_row(self.rows, key, self.kept.index.has(key))
     }
 
     /// How many rows of what is counted there are after the writes. A search, or three where the writes left their number.
     pub fn count(&self, counted: &Counted) -> Result<usize, AllocError>
         ensures { IfOk result (λ count. count ≡ count_in (drafted_rows self.now) (span_of counted.now)) }
     {
-        self.sizes.count(self.rows, counted)
+        self.kept.sizes.count(self.rows, counted)
     }
 
     /// How many rows there are after the writes.
     pub fn total(&self) -> usize
         ensures { result ≡ length (drafted_rows self.now) }
     {
-        self.sizes.total
+        self.kept.sizes.total
     }
 
     /// How many writes there are.
@@ -100,17 +93,23 @@ impl<'a, R: RowStore> Draft<'a, R> {
     pub fn with(self, edit: &Edit) -> Result<Self, AllocError>
         ensures { IfOk result (λ draft. draft ≡ wrote self.entry (writes_of (drafted_rows self.entry) edit.now)) }
     {
-        let key = edit_key(edit)?;
         match edit {
             Edit::NetDrop { .. } | Edit::PidDrop { .. } | Edit::MetricDrop { .. } => {
-                self.withdraw(&key)
+                self.withdraw(edit)
             }
             Edit::PrefixPut { net, pid, prefix } => self.give(net, pid, prefix),
-            _ => {
-                let value = edit_value(edit)?;
-                self.write(key, value)
-            }
+            _ => self.with_row(edit),
         }
+    }
+
+    /// The draft with the write of an edit that has one.
+    fn with_row(self, edit: &Edit) -> Result<Self, AllocError>
+        requires { has_one_write edit.now ≡ true }
+        ensures { IfOk result (λ draft. draft ≡ wrote self.entry (writes_of (drafted_rows self.entry) edit.now)) }
+    {
+        let key = self.shared_key(edit)?;
+        let value = edit_value(edit)?;
+        self.write(key, value)
     }
 
     /// The draft with one write more. Some searches.
@@ -118,26 +117,10 @@ impl<'a, R: RowStore> Draft<'a, R> {
         requires alone { is_some value ≡ true → GivesAlone (drafted_rows self) key }
         ensures { IfOk result (λ draft. draft ≡ wrote self.entry (writing key value ∷ [])) }
     {
-        let had = self.has(&key);
-        let has = value.is_some();
-        let Draft {
-            rows,
-            writes,
-            index,
-            sizes,
-            owners,
-        } = self;
-        let index = index.with(&key, has)?;
-        let sizes = sizes.with(rows, &key, had, has)?;
-        let owners = owners.with(&key, had, has)?;
+        let Draft { rows, writes, kept } = self;
+        let kept = kept.with(rows, &key, value.is_some())?;
         let writes = with_write(writes, Write { key, value })?;
-        Ok(Draft {
-            rows,
-            writes,
-            index,
-            sizes,
-            owners,
-        })
+        Ok(Draft { rows, writes, kept })
     }
 
     /// The draft with a prefix given to a PID, and taken from the PID that had it. Some searches where the owners of the
@@ -147,7 +130,7 @@ impl<'a, R: RowStore> Draft<'a, R> {
             ++ putting (key.Prefix net.now pid.now prefix.now) value.Unit ∷ [])) }
     {
         let draft = self.take(net, pid, prefix)?;
-        let key = prefix_key(net, copied_pid(pid)?, prefix)?;
+        let key = draft.shared_prefix(net, pid, prefix)?;
         draft.write(key, Some(Value::Unit))
     }
 
@@ -156,6 +139,7 @@ impl<'a, R: RowStore> Draft<'a, R> {
         ensures taken { IfOk result (λ draft. draft ≡ wrote self.entry (taking (drafted_rows self.entry) net.now pid.now prefix.now)) }
         ensures alone { IfOk result (λ draft. GivesAlone (drafted_rows draft) (key.Prefix net.now pid.now prefix.now)) }
     {
+        let _ = &self.rows;
         match self.owner(net, prefix)? {
             Some(owner) => self.take_from(net, pid, prefix, owner),
             None => Ok(self),
@@ -178,7 +162,7 @@ impl<'a, R: RowStore> Draft<'a, R> {
         if owner == *pid {
             return Ok(self);
         }
-        let key = prefix_key(net, owner, prefix)?;
+        let key = prefix_key(net, &owner, prefix)?;
         self.write(key, None)
     }
 
@@ -192,18 +176,14 @@ impl<'a, R: RowStore> Draft<'a, R> {
     /// The PID that has a prefix after the writes. Two searches where the owners of the network's prefixes are known, else
     /// one walk over these.
     fn owner(&self, net: &NetName, prefix: &Prefix) -> Result<Option<PidName>, AllocError>
-        ensures owner { IfOk result (λ owner. HasOwner (drafted_rows self.now) net.now prefix.now owner) }
-        ensures sorted { AreSorted (drafted_rows self.now) }
+        ensures { IfOk result (λ owner. HasOwner (drafted_rows self.now) net.now prefix.now owner) }
     {
-        let owners = &self.owners;
-        let place = Place {
-            net: net.clone()?,
-            prefix: PackedPrefix::new(prefix),
-        };
+        let owners = &self.kept.owners;
+        let place = place_of(net, prefix)?;
         match owners.find(&place)? {
             Some(owner) => Ok(owner),
             None if owners.knows(net) => Ok(None),
-            None => owner_before(*self.writes.allocator(), self.rows, net, &place),
+            None => owner_before(*self.writes.allocator(), self.rows, net, prefix),
         }
     }
 
@@ -211,61 +191,10 @@ impl<'a, R: RowStore> Draft<'a, R> {
     pub fn knowing(self, net: &NetName) -> Result<Self, AllocError>
         ensures { IfOk result (λ draft. draft ≡ self.entry) }
     {
-        let Draft {
-            rows,
-            writes,
-            index,
-            sizes,
-            owners,
-        } = self;
-        let owners = owners.knowing(rows, net)?;
-        Ok(Draft {
-            rows,
-            writes,
-            index,
-            sizes,
-            owners,
-        })
+        let Draft { rows, writes, kept } = self;
+        let kept = kept.knowing(*writes.allocator(), rows, net)?;
+        Ok(Draft { rows, writes, kept })
     }
-}
-
-/// Whether a key has a row.
-fn has_row<R: RowStore>(rows: &R, key: &Key) -> bool
-    ensures { result ≡ has_row (R.rows rows.now) key.now }
-{
-    rows.get(key).is_some()
-}
-
-/// The PID that has a prefix before the writes. One walk over the prefixes of the network.
-fn owner_before<R: RowStore>(
-    alloc: Global,
-    rows: &R,
-    net: &NetName,
-    place: &Place,
-) -> Result<Option<PidName>, AllocError>
-    requires owners { HaveOneOwner (R.rows rows.now) }
-    requires net { place.now.net ≡ net.now }
-    ensures { IfOk result (λ owner. HasOwner (R.rows rows.now) net.now place.now.prefix owner) }
-{
-    let owners = Owners::new(alloc).knowing(rows, net)?;
-    match owners.find(place)? {
-        Some(owner) => Ok(owner),
-        None => Ok(None),
-    }
-}
-
-/// The key of a prefix in a PID.
-fn prefix_key(net: &NetName, pid: PidName, prefix: &Prefix) -> Result<Key, AllocError>
-    ensures { IfOk result (λ at. at ≡ key.Prefix net.now pid prefix.now) }
-{
-    Ok(Key::Prefix(net.clone()?, pid, PackedPrefix::new(prefix)))
-}
-
-/// A copy of a PID's name.
-fn copied_pid(pid: &PidName) -> Result<PidName, AllocError>
-    ensures { IfOk result (λ copy. copy ≡ pid.now) }
-{
-    pid.clone()
 }
 
 /// The writes with one more.

@@ -41,30 +41,33 @@ impl Index {
         }
     }
 
-    /// The index with a write more: whether its key has a row after it.
-    pub fn with(self, key: &Key, has: bool) -> Result<Index, AllocError>
-        ensures written { IfOk result (λ index. MapUpdates key_cmp self.written index.written key.now (Some has)) }
-        ensures parts { IfOk result (λ index. (of : resource.Resource)
-            → contains resource_cmp index.parts of ≡ (contains resource_cmp self.parts of || is_resource (part_of key.now) of)) }
+    /// The index with a write more, whether its key has a row after it, and what `has` told before.
+    pub fn with(self, key: &Key, has: bool) -> Result<(Index, Option<bool>), AllocError>
+        ensures written { IfOk result (λ made.
+            MapUpdates key_cmp self.written made.0.written key.now (Some has)) }
+        ensures parts { IfOk result (λ made. (of : resource.Resource) → contains resource_cmp made.0.parts of
+            ≡ (contains resource_cmp self.parts of || is_resource (part_of key.now) of)) }
+        ensures old { IfOk result (λ made. made.1 ≡ get key_cmp self.written key.now) }
     {
         let Index { written, parts } = self;
-        let written = with_key(written, key, has)?;
+        let (written, old) = with_key(written, key, has)?;
         let parts = with_part(parts, key)?;
-        Ok(Index { written, parts })
+        Ok((Index { written, parts }, old))
     }
 }
 
-/// The written keys with one more.
+/// The written keys with one more, and what was there of it.
 fn with_key(
     written: BTreeMap<Key, bool>,
     key: &Key,
     has: bool,
-) -> Result<BTreeMap<Key, bool>, AllocError>
-    ensures { IfOk result (λ all. MapUpdates key_cmp written all key.now (Some has)) }
+) -> Result<(BTreeMap<Key, bool>, Option<bool>), AllocError>
+    ensures all { IfOk result (λ made. MapUpdates key_cmp written made.0 key.now (Some has)) }
+    ensures old { IfOk result (λ made. made.1 ≡ get key_cmp written key.now) }
 {
     let mut all = written;
-    all.insert(copied(key)?, has)?;
-    Ok(all)
+    let old = all.insert(copied(key)?, has)?;
+    Ok((all, old))
 }
 
 /// The resources with the one that a key is part of.

@@ -1,17 +1,17 @@
-ghost use Rattle.std.specs.Prelude.{◌≡◌, [], ◌∷◌, IfOk, Some, true, is_some};
+ghost use Rattle.std.specs.Prelude.{◌≡◌, [], ◌∷◌, IfOk, Some, true, is_some, map};
 ghost use Rattle.std.specs.BTreeMap.{BTreeMap, Updates, get};
 ghost use Rattle.std.specs.BTreeSet.{BTreeSet, Updates as SetUpdates, contains};
+ghost use Rattle.std.specs.Ordering.{is_eq};
+ghost use Rattle.alto_addr.specs.Order.{prefix_cmp};
 ghost use Rattle.alto_rows.specs.Order.{name_cmp};
-ghost use Rattle.alto_rows.specs.declared.span.Span.TheVariants as span;
 ghost use Rattle.alto_rows.specs.Rows.{Rows};
-ghost use Rattle.alto_rows.specs.Span.{rows_in};
-ghost use Rattle.alto_rules.specs.declared.place.Place.{Place};
-ghost use Rattle.alto_rules.specs.Draft.{HaveOneOwner};
-ghost use Rattle.alto_rules.specs.Owners.{AreOwners, HasChanged, HasFilled, HasFilledWith, owner_left, owner_in, place_cmp, place_of};
+ghost use Rattle.alto_rules.specs.Draft.{HasOwner, HaveOneOwner};
+ghost use Rattle.alto_rules.specs.Owners.{AreOwners, HasChanged, HasFilled, owner_among, owner_left, place_cmp, place_of, placed};
 
 use crate::place::Place;
+use alto_addr::Prefix;
 use alto_names::{NetName, PidName};
-use alto_rows::{Key, PackedPrefix, RowStore, Span, Value, rows_in};
+use alto_rows::{Key, PackedPrefix, RowStore, prefixes_of};
 use std::alloc::{AllocError, Global};
 use std::collections::{BTreeMap, BTreeSet};
 
@@ -67,57 +67,81 @@ impl Owners {
     }
 
     /// The owners with those of all prefixes that a network has in the rows before the writes. One walk over these.
-    pub fn knowing<R: RowStore>(self, rows: &R, net: &NetName) -> Result<Owners, AllocError>
+    pub fn knowing<R: RowStore>(
+        self,
+        alloc: Global,
+        rows: &R,
+        net: &NetName,
+    ) -> Result<Owners, AllocError>
         requires { HaveOneOwner (R.rows rows.now) }
-        ensures owners { IfOk result (λ owners. (later : Rows)
+        ensures { IfOk result (λ owners. (later : Rows)
             → AreOwners (R.rows rows.now) later self.of self.known → AreOwners (R.rows rows.now) later owners.of owners.known) }
-        ensures known { IfOk result (λ owners. contains name_cmp owners.known net.now ≡ true) }
     {
         let Owners { of, known } = self;
         if known.contains(net) {
             return Ok(Owners { of, known });
         }
-        let of = with_prefixes(of, rows, net)?;
+        let of = with_told(of, net, prefixes_of(alloc, rows, net)?)?;
         let known = with_net(known, net)?;
         Ok(Owners { of, known })
     }
 }
 
-/// The owners with those that the rows tell and that aren't kept yet.
-fn with_prefixes<R: RowStore>(
-    of: BTreeMap<Place, Option<PidName>>,
+/// The PID that has a prefix before the writes. One walk over the prefixes of the network.
+pub fn owner_before<R: RowStore>(
+    alloc: Global,
     rows: &R,
     net: &NetName,
+    prefix: &Prefix,
+) -> Result<Option<PidName>, AllocError>
+    requires { HaveOneOwner (R.rows rows.now) }
+    ensures { IfOk result (λ owner. HasOwner (R.rows rows.now) net.now prefix.now owner) }
+{
+    Ok(owner_among(prefixes_of(alloc, rows, net)?, prefix))
+}
+
+/// The PID of a prefix among prefixes with their PIDs.
+fn owner_among(told: Vec<(Prefix, PidName)>, prefix: &Prefix) -> Option<PidName>
+    ensures { result ≡ owner_among told.items prefix.now }
+{
+    for (other, pid) in told {
+        if is_same(prefix, &other) {
+            return Some(pid);
+        }
+    }
+    None
+}
+
+/// Whether two prefixes are one.
+#[tactic(auto, unfolding(alto_addr::specs::Order::prefix_cmp, alto_addr::specs::Order::addr_cmp))]
+fn is_same(prefix: &Prefix, other: &Prefix) -> bool
+    ensures { result ≡ is_eq (prefix_cmp prefix.now other.now) }
+{
+    prefix.cmp(other).is_eq()
+}
+
+/// The owners with those that are told of a network's prefixes, unless one is kept of the same prefix.
+fn with_told(
+    of: BTreeMap<Place, Option<PidName>>,
+    net: &NetName,
+    told: Vec<(Prefix, PidName)>,
 ) -> Result<BTreeMap<Place, Option<PidName>>, AllocError>
-    ensures { IfOk result (λ all. HasFilled (rows_in (R.rows rows.now) (span.Prefixes net.now)) of all) }
+    ensures { IfOk result (λ all. HasFilled (map (placed net.now) told.items) of all) }
 {
     let mut all = of;
-    for row in rows_in(rows, Span::Prefixes(net.clone()?)) {
-        all = with_row(all, row)?;
+    for (prefix, pid) in told {
+        all = with_one(all, place_of(net, &prefix)?, pid)?;
     }
     Ok(all)
 }
 
-/// The owners with the one that a row tells, unless one is kept of its prefix.
-fn with_row(
-    of: BTreeMap<Place, Option<PidName>>,
-    row: &(Key, Value),
-) -> Result<BTreeMap<Place, Option<PidName>>, AllocError>
-    ensures { IfOk result (λ all. HasFilled (row.now ∷ []) of all) }
-{
-    match owner_in(row)? {
-        Some((place, owner)) => with_told(of, place, owner),
-        None => Ok(of),
-    }
-}
-
 /// The owners with one more, unless one is kept of its prefix.
-fn with_told(
+fn with_one(
     of: BTreeMap<Place, Option<PidName>>,
     place: Place,
     owner: PidName,
 ) -> Result<BTreeMap<Place, Option<PidName>>, AllocError>
-    ensures { IfOk result (λ all. HasFilledWith ((place, owner) ∷ []) of all) }
+    ensures { IfOk result (λ all. HasFilled ((place, owner) ∷ []) of all) }
 {
     if is_kept(&of, &place) {
         Ok(of)
@@ -133,16 +157,6 @@ fn is_kept(of: &BTreeMap<Place, Option<PidName>>, place: &Place) -> bool
     of.contains_key(place)
 }
 
-/// The owner that a row tells.
-fn owner_in(row: &(Key, Value)) -> Result<Option<(Place, PidName)>, AllocError>
-    ensures { IfOk result (λ owner. owner ≡ owner_in row.now) }
-{
-    match &row.0 {
-        Key::Prefix(net, pid, prefix) => Ok(Some((place_of(net, prefix)?, pid.clone()?))),
-        _ => Ok(None),
-    }
-}
-
 /// The prefix whose owner a write changes, with the owner that it then has: the row of the write's key was there or not,
 /// and then is there or not.
 fn owner_left(
@@ -154,20 +168,20 @@ fn owner_left(
 {
     match key {
         Key::Prefix(net, pid, prefix) if has => {
-            Ok(Some((place_of(net, prefix)?, Some(pid.clone()?))))
+            Ok(Some((place_of(net, &prefix.prefix())?, Some(pid.clone()?))))
         }
-        Key::Prefix(net, _, prefix) if had => Ok(Some((place_of(net, prefix)?, None))),
+        Key::Prefix(net, _, prefix) if had => { Ok(Some((place_of(net, &prefix.prefix())?, None))) }
         _ => Ok(None),
     }
 }
 
 /// A prefix of a network.
-fn place_of(net: &NetName, prefix: &PackedPrefix) -> Result<Place, AllocError>
+pub fn place_of(net: &NetName, prefix: &Prefix) -> Result<Place, AllocError>
     ensures { IfOk result (λ at. at ≡ place_of net.now prefix.now) }
 {
     Ok(Place {
         net: net.clone()?,
-        prefix: prefix.clone()?,
+        prefix: PackedPrefix::new(prefix),
     })
 }
 

@@ -2,9 +2,12 @@ ghost use Rattle.std.specs.Prelude.{◌≡◌, IfOk};
 ghost use Rattle.alto_edits.specs.Writes.{property_value};
 ghost use Rattle.alto_rules.specs.Parts.{edit_key, edit_net, edit_value};
 
+use crate::keys::{
+    ane_key, ane_prop_key, cost_key, metric_key, net_key, path_key, pid_key, prefix_key, prop_key,
+};
 use alto_edits::{Edit, PropValue};
 use alto_names::NetName;
-use alto_rows::{Key, PackedPrefix, Value};
+use alto_rows::{Key, Value};
 use std::alloc::AllocError;
 
 /// The network of an edit.
@@ -35,15 +38,15 @@ pub fn edit_net(edit: &Edit) -> &NetName
 pub fn edit_key(edit: &Edit) -> Result<Key, AllocError>
     ensures { IfOk result (λ key. key ≡ edit_key edit.now) }
 {
-    let net = copied_net(edit_net(edit))?;
-    Ok(match edit {
-        Edit::NetAdd { .. } | Edit::NetDrop { .. } => Key::Net(net),
-        Edit::PidAdd { pid, .. } | Edit::PidDrop { pid, .. } => Key::Pid(net, pid.clone()?),
+    let net = edit_net(edit);
+    match edit {
+        Edit::NetAdd { .. } | Edit::NetDrop { .. } => net_key(net),
+        Edit::PidAdd { pid, .. } | Edit::PidDrop { pid, .. } => pid_key(net, pid),
         Edit::PrefixPut { pid, prefix, .. } | Edit::PrefixDel { pid, prefix, .. } => {
-            Key::Prefix(net, pid.clone()?, PackedPrefix::new(prefix))
+            prefix_key(net, pid, prefix)
         }
         Edit::MetricAdd { metric, .. } | Edit::MetricDrop { metric, .. } => {
-            Key::Metric(net, metric.clone()?)
+            metric_key(net, metric)
         }
         Edit::CostPut {
             metric,
@@ -56,12 +59,12 @@ pub fn edit_key(edit: &Edit) -> Result<Key, AllocError>
             source,
             destination,
             ..
-        } => { Key::Cost(net, metric.clone()?, source.clone()?, destination.clone()?) }
+        } => cost_key(net, metric, source, destination),
         Edit::PropPut { entity, name, .. } | Edit::PropDel { entity, name, .. } => {
-            Key::Prop(net, entity.clone()?, name.clone()?)
+            prop_key(net, entity, name)
         }
-        Edit::AneAdd { ane, .. } => Key::Ane(net, ane.clone()?),
-        Edit::AneSet { ane, name, .. } => Key::AneProp(net, ane.clone()?, name.clone()?),
+        Edit::AneAdd { ane, .. } => ane_key(net, ane),
+        Edit::AneSet { ane, name, .. } => ane_prop_key(net, ane, name),
         Edit::PathPut {
             source,
             destination,
@@ -71,15 +74,8 @@ pub fn edit_key(edit: &Edit) -> Result<Key, AllocError>
             source,
             destination,
             ..
-        } => { Key::Path(net, source.clone()?, destination.clone()?) }
-    })
-}
-
-/// A copy of a network's name.
-fn copied_net(net: &NetName) -> Result<NetName, AllocError>
-    ensures { IfOk result (λ copy. copy ≡ net.now) }
-{
-    net.clone()
+        } => path_key(net, source, destination),
+    }
 }
 
 /// The value that an edit leaves at that key.

@@ -1,17 +1,22 @@
-ghost use Rattle.std.specs.Prelude.{◌≡◌, ◌+◌, ◌^◌, ◌<◌, IfOk, option_copied};
+ghost use Rattle.std.specs.Prelude.{◌≡◌, ◌+◌, ◌^◌, ◌<◌, ◌∷◌, [], IfOk, option_copied};
 ghost use Rattle.std.specs.BTreeSet.{contains};
-ghost use Rattle.std.specs.List.{flat_map};
+ghost use Rattle.std.specs.List.{filter_map, flat_map};
+ghost use Rattle.alto_rows.specs.declared.key.Key.TheVariants as key;
 ghost use Rattle.alto_rows.specs.declared.resource.Resource as resource;
+ghost use Rattle.alto_rows.specs.declared.span.Span.TheVariants as span;
 ghost use Rattle.alto_rows.specs.Order.{resource_cmp};
-ghost use Rattle.alto_rows.specs.Versions.{cost_declared, declaring_key, is_declared, number_in, version_of};
+ghost use Rattle.alto_rows.specs.Versions.{declaring_key, is_declared, number_in, version_of};
 ghost use Rattle.alto_edits.specs.Laws.{HaveNextVersions};
 ghost use Rattle.alto_edits.specs.Versions.{next_version, sequence_writes};
-ghost use Rattle.alto_rules.specs.Draft.{HasJoined, HasTouched, HaveNoVersions, costs_of, dependents, drafted_rows, is_among, wrote};
+ghost use Rattle.alto_rules.specs.Withdrawal.{named_in};
+ghost use Rattle.alto_rules.specs.Draft.{HasJoined, HasTouched, HaveNoVersions, cost_of, costs_of, dependents, drafted_rows, is_among, wrote};
 
 use crate::draft::Draft;
 use crate::index::with_resource;
-use alto_names::NetName;
-use alto_rows::{Key, Resource, RowStore, Span, Value, Write, rows_in};
+use crate::keys::net_key;
+use crate::withdrawal::named_in;
+use alto_names::{Metric, NetName};
+use alto_rows::{Key, Resource, RowStore, Span, Value, Write};
 use std::alloc::{AllocError, Global};
 use std::collections::BTreeSet;
 
@@ -50,7 +55,8 @@ impl<'a, R: RowStore> Draft<'a, R> {
     fn declares(&self, of: &Resource) -> Result<bool, AllocError>
         ensures { IfOk result (λ declares. declares ≡ is_declared (drafted_rows self.now) of.now) }
     {
-        Ok(self.has(&declaring_key(of)?))
+        let key = declaring_key(of)?;
+        Ok(self.has(&key))
     }
 
     /// The resources that the writes touch, and perhaps some that aren't declared.
@@ -58,7 +64,7 @@ impl<'a, R: RowStore> Draft<'a, R> {
         requires { HaveNoVersions self.now.writes }
         ensures { IfOk result (λ touched. HasTouched self.now.rows self.now.writes touched) }
     {
-        all_dependents(*self.writes.allocator(), self.rows, &self.index.parts)
+        all_dependents(*self.writes.allocator(), self.rows, &self.kept.index.parts)
     }
 
     /// The write that gives a resource its next version.
@@ -81,13 +87,14 @@ fn all_dependents<R: RowStore>(
 {
     let mut all = BTreeSet::new(alloc);
     for of in parts {
-        all = with_dependents(rows, all, of)?;
+        all = with_dependents(alloc, rows, all, of)?;
     }
     Ok(all)
 }
 
 /// The resources with one more and what depends on it: with a network map the network's property map and its cost maps.
 fn with_dependents<R: RowStore>(
+    alloc: Global,
     rows: &R,
     touched: BTreeSet<Resource>,
     of: &Resource,
@@ -95,13 +102,14 @@ fn with_dependents<R: RowStore>(
     ensures { IfOk result (λ all. HasJoined touched (dependents (R.rows rows.now) of.now) all) }
 {
     match of {
-        Resource::Net(net) => with_map(rows, touched, net),
+        Resource::Net(net) => with_map(alloc, rows, touched, net),
         _ => with_resource(touched, copied_resource(of)?),
     }
 }
 
 /// The resources with a network's map, its property map and its cost maps.
 fn with_map<R: RowStore>(
+    alloc: Global,
     rows: &R,
     touched: BTreeSet<Resource>,
     net: &NetName,
@@ -110,35 +118,58 @@ fn with_map<R: RowStore>(
 {
     let with_net = with_resource(touched, Resource::Net(net.clone()?))?;
     let with_prop = with_resource(with_net, Resource::Prop(net.clone()?))?;
-    let all = with_costs(rows, with_prop, net)?;
+    let all = with_costs(alloc, rows, with_prop, net)?;
     Ok(all)
 }
 
 /// The resources with the cost maps that the rows declare of a network.
 fn with_costs<R: RowStore>(
+    alloc: Global,
     rows: &R,
     touched: BTreeSet<Resource>,
     net: &NetName,
 ) -> Result<BTreeSet<Resource>, AllocError>
     ensures { IfOk result (λ all. HasJoined touched (costs_of (R.rows rows.now) net.now) all) }
 {
+    let metrics = metrics_in(alloc, rows, net)?;
+    with_metrics(touched, &metrics)
+}
+
+/// The keys of the metrics that the rows declare of a network.
+fn metrics_in<R: RowStore>(alloc: Global, rows: &R, net: &NetName) -> Result<Vec<Key>, AllocError>
+    ensures { IfOk result (λ all. all.items ≡ named_in (R.rows rows.now) (span.Metrics net.now) (key.Net net.now)) }
+{
+    let metrics = Span::Metrics(net.clone()?);
+    let declared = net_key(net)?;
+    named_in(alloc, rows, metrics, &declared)
+}
+
+/// The resources with the cost maps of keys that declare them.
+fn with_metrics(touched: BTreeSet<Resource>, keys: &[Key]) -> Result<BTreeSet<Resource>, AllocError>
+    ensures { IfOk result (λ all. HasJoined touched (filter_map cost_of keys.now) all) }
+{
     let mut all = touched;
-    for row in rows_in(rows, Span::Metrics(net.clone()?)) {
-        if let Some(cost) = cost_declared(row)? {
-            all = with_resource(all, cost)?;
-        }
+    for key in keys {
+        all = with_cost(all, key)?;
     }
     Ok(all)
 }
 
-/// The cost map that a row declares.
-fn cost_declared(row: &(Key, Value)) -> Result<Option<Resource>, AllocError>
-    ensures { IfOk result (λ cost. cost ≡ cost_declared row.now) }
+/// The resources with the cost map of a key that declares one.
+fn with_cost(touched: BTreeSet<Resource>, key: &Key) -> Result<BTreeSet<Resource>, AllocError>
+    ensures { IfOk result (λ all. HasJoined touched (filter_map cost_of (key.now ∷ [])) all) }
 {
-    Ok(match &row.0 {
-        Key::Metric(net, metric) => Some(Resource::Cost(net.clone()?, metric.clone()?)),
-        _ => None,
-    })
+    match key {
+        Key::Metric(net, metric) => with_resource(touched, cost(net, metric)?),
+        _ => Ok(touched),
+    }
+}
+
+/// The cost map of a metric.
+fn cost(net: &NetName, metric: &Metric) -> Result<Resource, AllocError>
+    ensures { IfOk result (λ cost. cost ≡ Resource.Cost net.now metric.now) }
+{
+    Ok(Resource::Cost(net.clone()?, metric.clone()?))
 }
 
 /// The key that declares a resource.

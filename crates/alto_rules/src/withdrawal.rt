@@ -1,31 +1,44 @@
-ghost use Rattle.std.specs.Prelude.{◌≡◌, ◌&&◌, IfOk, true, is_some};
+ghost use Rattle.std.specs.Prelude.{◌≡◌, ◌&&◌, ◌++◌, ◌∷◌, [], IfOk, true, filter, map};
 ghost use Rattle.std.specs.List.{list_any};
-ghost use Rattle.std.specs.BTreeSet.{Updates, contains};
+ghost use Rattle.std.specs.BTreeSet.{IsOrdered, Updates, contains};
 ghost use Rattle.alto_rows.specs.declared.key.Key.{Key};
 ghost use Rattle.alto_rows.specs.declared.key.Key.TheVariants as keys;
 ghost use Rattle.alto_rows.specs.Order.{key_cmp};
 ghost use Rattle.alto_rows.specs.Rows.{AreSorted, has_row};
 ghost use Rattle.std.specs.Ordering.{is_eq};
 ghost use Rattle.alto_rows.specs.Span.{rows_in};
-ghost use Rattle.alto_edits.specs.Writes.{withdrawing};
+ghost use Rattle.alto_edits.specs.Writes.{deleting, withdrawing};
 ghost use Rattle.alto_rules.specs.Draft.{drafted_rows, wrote};
-ghost use Rattle.alto_rules.specs.Withdrawal.{HasPicked, is_of, is_pid, is_withdrawn, is_written_key, names_key, spans_of, withdraws};
+ghost use Rattle.alto_rules.specs.Parts.{edit_key};
+ghost use Rattle.alto_rules.specs.Withdrawal.{HasPicked, has_key, is_of, is_pid, is_withdrawn, is_written_key, named_in, names_key, spans_of, withdraws};
 
 use crate::draft::Draft;
 use crate::index::copied;
+use crate::parts::edit_key;
+use alto_edits::Edit;
 use alto_names::{Metric, NetName, PidName};
 use alto_rows::{Entity, Key, RowStore, Span, Write, rows_in};
 use std::alloc::{AllocError, Global};
 use std::collections::BTreeSet;
 
 impl<'a, R: RowStore> Draft<'a, R> {
-    /// The draft with the deletions of all rows that name what the key of a network, a PID or a metric declares. It walks
-    /// the spans that can name the key and the keys that were written, with a search for each that does.
-    pub fn withdraw(self, declared: &Key) -> Result<Self, AllocError>
-        requires { withdraws declared.now ≡ true }
-        ensures { IfOk result (λ draft. draft ≡ wrote self.entry (withdrawing (drafted_rows self.entry) declared.now)) }
+    /// The draft with the deletions of all rows that name what the network, the PID or the metric of an edit declares. It
+    /// walks the spans that can name the key and the keys that were written, with a search for each that does.
+    pub fn withdraw(self, edit: &Edit) -> Result<Self, AllocError>
+        requires { withdraws (edit_key edit.now) ≡ true }
+        ensures { IfOk result (λ draft. draft
+            ≡ wrote self.entry (withdrawing (drafted_rows self.entry) (edit_key edit.now))) }
     {
-        let keys = self.withdrawn(declared)?;
+        let declared = edit_key(edit)?;
+        let keys = self.withdrawn(&declared)?;
+        self.without(keys)
+    }
+
+    /// The draft with the deletions of keys, in their order.
+    fn without(self, keys: BTreeSet<Key>) -> Result<Self, AllocError>
+        ensures deleted { IfOk result (λ draft. draft ≡ wrote self.entry (map deleting keys.keys)) }
+        ensures ordered { IsOrdered key_cmp keys }
+    {
         let mut draft = self;
         for key in keys {
             draft = draft.write(key, None)?;
@@ -36,7 +49,8 @@ impl<'a, R: RowStore> Draft<'a, R> {
     /// The keys that have rows after the writes and name what a key declares.
     fn withdrawn(&self, declared: &Key) -> Result<BTreeSet<Key>, AllocError>
         requires { withdraws declared.now ≡ true }
-        ensures keys { IfOk result (λ all. (at : Key) → contains key_cmp all at ≡ is_withdrawn (drafted_rows self.now) declared.now at) }
+        ensures keys { IfOk result (λ all. (at : Key) → contains key_cmp all at
+            ≡ is_withdrawn (drafted_rows self.now) declared.now at) }
         ensures sorted { AreSorted (drafted_rows self.now) }
     {
         let spans = spans_of(*self.writes.allocator(), declared)?;
@@ -47,7 +61,8 @@ impl<'a, R: RowStore> Draft<'a, R> {
     /// The keys of some spans that have rows before and after the writes and name what a key declares.
     fn with_spans(&self, declared: &Key, spans: Vec<Span>) -> Result<BTreeSet<Key>, AllocError>
         ensures { IfOk result (λ all. (at : Key) → contains key_cmp all at
-            ≡ (is_withdrawn (drafted_rows self.now) declared.now at && list_any (λ span. has_row (rows_in self.now.rows span) at) spans.items)) }
+            ≡ (is_withdrawn (drafted_rows self.now) declared.now at
+            && list_any (λ span. has_row (rows_in self.now.rows span) at) spans.items)) }
     {
         let mut all = BTreeSet::new(*self.writes.allocator());
         for span in spans {
@@ -66,9 +81,23 @@ impl<'a, R: RowStore> Draft<'a, R> {
         ensures { IfOk result (λ all. HasPicked (is_withdrawn (drafted_rows self.now) declared.now)
             (has_row (rows_in self.now.rows span)) keys all) }
     {
+        let named = named_in(*self.writes.allocator(), self.rows, span, declared)?;
+        self.with_keys(keys, declared, &named)
+    }
+
+    /// The keys with those of some that have rows after the writes and name what a key declares.
+    fn with_keys(
+        &self,
+        keys: BTreeSet<Key>,
+        declared: &Key,
+        these: &[Key],
+    ) -> Result<BTreeSet<Key>, AllocError>
+        ensures { IfOk result (λ all. HasPicked (is_withdrawn (drafted_rows self.now) declared.now)
+            (has_key these.now) keys all) }
+    {
         let mut all = keys;
-        for row in rows_in(self.rows, span) {
-            all = self.with_named(all, declared, &row.0)?;
+        for key in these {
+            all = self.with_named(all, declared, key)?;
         }
         Ok(all)
     }
@@ -108,6 +137,34 @@ impl<'a, R: RowStore> Draft<'a, R> {
         }
         with_key(keys, key)
     }
+}
+
+/// The keys of a span that have rows and name what a key declares. One walk over the span.
+pub fn named_in<R: RowStore>(
+    alloc: Global,
+    rows: &R,
+    span: Span,
+    declared: &Key,
+) -> Result<Vec<Key>, AllocError>
+    ensures { IfOk result (λ keys. keys.items ≡ named_in (R.rows rows.now) span declared.now) }
+{
+    let mut keys = Vec::new(alloc);
+    for row in rows_in(rows, span) {
+        keys = with_name(keys, declared, &row.0)?;
+    }
+    Ok(keys)
+}
+
+/// The keys with one more, where it names what a key declares.
+fn with_name(keys: Vec<Key>, declared: &Key, key: &Key) -> Result<Vec<Key>, AllocError>
+    ensures { IfOk result (λ all. all.items ≡ keys.items ++ filter (names_key declared.now) (key.now ∷ [])) }
+{
+    if !names(declared, key) {
+        return Ok(keys);
+    }
+    let mut all = keys;
+    all.push(copied(key)?)?;
+    Ok(all)
 }
 
 /// The keys with one more.

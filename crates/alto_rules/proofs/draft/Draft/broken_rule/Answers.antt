@@ -1,5 +1,5 @@
 -- The rule of the network, or else of the PIDs, or else the edit's own.
-use Rattle.std.proofs.Common.{ap, sym, ◌∙◌}
+use Rattle.std.proofs.Common.{sym, ◌∙◌}
 use Rattle.std.proofs.lemmas.Result.{IfOk-weaker}
 use Rattle.alto_rules.specs.Draft.{drafted_rows}
 use Rattle.alto_rules.proofs.CheckLemmas.{added_rule, of_net_rule, of_own_rule, of_pid_rule}

@@ -1,12 +1,13 @@
 -- The index tells of the keys that are written, the rows of all others.
-use Rattle.std.proofs.Common.{◌∙◌}
-use Rattle.alto_rules.proofs.IndexLemmas.{has_written, has_unwritten}
+use Rattle.std.proofs.Common.{ap, sym, ◌∙◌}
+use Rattle.std.specs.Prelude.{Bool, Option}
+use Rattle.std.specs.Option.{unwrap_or}
+use Rattle.alto_rows.specs.Rows.{has_row}
 use Rattle.alto_rules.proofs.draft.Draft.has.Goals as goal
 
-pub returns-in-Some : goal.returns-in-Some
-returns-in-Some g c =
-    rw (← c.self.view_is) (has_written _ _ _ _ c.self.invariant.indexed c.args.key.now c.in-Some.has c.in-Some.ensures)
-
-pub returns-in-None : goal.returns-in-None
-returns-in-None g c =
-    rw (← c.self.view_is) (c.has_row.ensures ∙ has_unwritten _ _ _ _ c.self.invariant.indexed c.args.key.now c.in-None.ensures)
+pub returns : goal.returns
+returns g c =
+    rw (← c.self.view_is)
+    (c.has_row.ensures
+    ∙ (ap (λ (written : Option Bool). unwrap_or written (has_row (g.R.RowStore.rows c.self.inside.rows.now) c.args.key.now)) c.has.ensures
+    ∙ sym (c.self.invariant.indexed.rows_at c.args.key.now)))

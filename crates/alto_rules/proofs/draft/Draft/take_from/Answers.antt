@@ -1,15 +1,15 @@
 -- The owner's row is deleted, unless it is that of the PID itself.
-use Rattle.std.proofs.Common.{◌≡◌, ap, sym, ◌∙◌, subst}
+use Rattle.std.proofs.Common.{ap, sym, ◌∙◌, subst}
 use Rattle.std.proofs.lemmas.Result.{IfOk-weaker}
-use Rattle.std.specs.Prelude.{ℕ, true, List, [], ◌∷◌, Some, None}
+use Rattle.std.specs.Prelude.{List, [], ◌∷◌, Some, None}
 use Rattle.alto_rows.specs.declared.key.Key.{Key}
 use Rattle.alto_rows.specs.declared.key.Key.TheVariants as key
 use Rattle.alto_rows.specs.declared.write.Write.{Write}
 use Rattle.alto_rows.proofs.TouchesLemmas.{one_name}
 use Rattle.alto_rows.proofs.WriteLemmas.{after-push}
-use Rattle.alto_rules.specs.Draft.{Drafted, GivesAlone, drafted_rows, is_owner, writing, wrote}
+use Rattle.alto_rules.specs.Draft.{Drafted, GivesAlone, drafted_rows, writing, wrote}
 use Rattle.alto_rules.proofs.DraftedLemmas.{wrote_none}
-use Rattle.alto_rules.proofs.TakeLemmas.{alone_mine, alone_taken, taking_none, taking_one}
+use Rattle.alto_rules.proofs.TakeLemmas.{alone_taken, taking_none, taking_one}
 use Rattle.alto_rules.proofs.draft.Draft.take_from.Goals as goal
 
 pub returns-then-eq-clause-taken : goal.returns-then-eq-clause-taken

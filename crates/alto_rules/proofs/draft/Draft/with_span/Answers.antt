@@ -1,28 +1,20 @@
--- A row that was left is gone over.
-use Rattle.std.proofs.Common.{ap, sym, ◌∙◌}
-use Rattle.std.specs.Prelude.{◌&&◌, ◌||◌}
-use Rattle.std.specs.BTreeSet.{contains}
+-- The keys of the span that name what is declared are those that can be withdrawn.
+use Rattle.std.proofs.Common.{◌≡◌, ap, ◌∙◌, subst}
+use Rattle.std.proofs.lemmas.Result.{IfOk-weaker}
+use Rattle.std.specs.Prelude.{List}
 use Rattle.alto_rows.specs.declared.key.Key.{Key}
-use Rattle.std.specs.Ordering.{is_eq}
-use Rattle.alto_rows.specs.Order.{key_cmp}
-use Rattle.alto_rows.specs.Rows.{Rows, has_row}
-use Rattle.alto_rows.specs.Span.{rows_in}
-use Rattle.alto_rules.specs.Draft.{drafted_rows}
-use Rattle.alto_rules.specs.Withdrawal.{is_withdrawn}
-use Rattle.alto_rules.proofs.WithdrawLemmas.{first_row_has, picked_end, picked_more}
+use Rattle.alto_rules.specs.Draft.{Drafted, drafted_rows}
+use Rattle.alto_rules.specs.Withdrawal.{HasPicked, has_key, is_withdrawn, named_in}
+use Rattle.alto_rules.proofs.WithdrawLemmas.{picked_named}
 use Rattle.alto_rules.proofs.draft.Draft.with_span.Goals as goal
 
-pub loop-row-preserved : goal.loop-row-preserved
-loop-row-preserved g c =
-    picked_more (is_withdrawn (drafted_rows c.args.self.now) c.args.declared.now)
-    (has_row c.loop-row.row-iterator) (has_row c.next.new.self)
-    (λ at. contains key_cmp c.args.keys at || (is_withdrawn (drafted_rows c.args.self.now) c.args.declared.now at && has_row (rows_in c.args.self.now.rows c.args.span) at))
-    (λ at. is_eq (key_cmp c.in-Some.row.now.0 at)) c.loop-row.all c.in_ok-all.all
-    (λ at. ap (λ (rows : Rows). has_row rows at) c.in-Some.ensures.steps ∙ first_row_has c.in-Some.row.now c.next.new.self at)
-    c.in_ok-all.ensures c.loop-row.invariant
-
 pub returns : goal.returns
-returns g c = λ at.
-    sym (picked_end (contains key_cmp c.loop-row.all at) (is_withdrawn (drafted_rows c.args.self.now) c.args.declared.now at))
-    ∙ (ap (λ (rows : Rows). contains key_cmp c.loop-row.all at || (is_withdrawn (drafted_rows c.args.self.now) c.args.declared.now at && has_row rows at)) (sym c.in-None.ensures.steps.0)
-    ∙ c.loop-row.invariant at)
+returns g c =
+    let draft = c.args.self.now in
+    let declared = c.args.declared.now in
+    let same : c.deref.result.now ≡ named_in c.args.self.now.rows c.args.span c.args.declared.now =
+    c.deref.ensures.value ∙ (c.in_ok-named.ensures ∙ ap (λ (d : Drafted). named_in d.rows c.args.span c.args.declared.now) c.self.view_is) in
+    IfOk-weaker c.with_keys.result _ _
+    (λ all picked. picked_named (drafted_rows draft) draft.rows c.args.span declared c.args.keys all
+    (subst (λ (these : List Key). HasPicked (is_withdrawn (drafted_rows draft) declared) (has_key these) c.args.keys all) same picked))
+    c.with_keys.ensures

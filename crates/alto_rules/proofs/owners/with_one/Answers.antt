@@ -2,7 +2,7 @@
 use Rattle.std.proofs.lemmas.Result.{IfOk-weaker}
 use Rattle.std.proofs.Common.{sym, ◌∙◌}
 use Rattle.alto_rules.proofs.OwnerLemmas.{filled_kept, filled_one}
-use Rattle.alto_rules.proofs.owners.with_told.Goals as goal
+use Rattle.alto_rules.proofs.owners.with_one.Goals as goal
 
 pub returns-then-is_kept : goal.returns-then-is_kept
 returns-then-is_kept c = filled_kept c.args.of c.args.place c.args.owner (sym c.is_kept.ensures ∙ c.if-is_kept.true)

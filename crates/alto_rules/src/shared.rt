@@ -1,0 +1,147 @@
+ghost use Rattle.std.specs.Prelude.{◌≡◌, IfOk, IfSome};
+ghost use Rattle.alto_rows.specs.declared.key.Key.TheVariants as keys;
+ghost use Rattle.alto_rules.specs.Parts.{edit_key};
+
+use crate::draft::Draft;
+use crate::keys::{metric_key, net_key, pid_key};
+use crate::parts::edit_key;
+use alto_addr::Prefix;
+use alto_edits::Edit;
+use alto_names::{Metric, NetName, PidName};
+use alto_rows::{Key, PackedPrefix, RowStore};
+use std::alloc::AllocError;
+
+impl<'a, R: RowStore> Draft<'a, R> {
+    /// The key that an edit is about. What it names of a network that rows declare, before the batch or written in it, it
+    /// names by their copy of the name, so that many rows share one: contracts see names by value, and don't say it. A
+    /// search for each such name.
+    pub fn shared_key(&self, edit: &Edit) -> Result<Key, AllocError>
+        ensures { IfOk result (λ key. key ≡ edit_key edit.now) }
+    {
+        match edit {
+            Edit::PidAdd { net, pid } => self.shared_pid(net, pid),
+            Edit::CostPut {
+                net,
+                metric,
+                source,
+                destination,
+                ..
+            } => self.shared_cost(net, metric, source, destination),
+            Edit::PathPut {
+                net,
+                source,
+                destination,
+                ..
+            } => self.shared_path(net, source, destination),
+            _ => edit_key(edit),
+        }
+    }
+
+    /// The key of a PID, with its network's name so.
+    fn shared_pid(&self, net: &NetName, pid: &PidName) -> Result<Key, AllocError>
+        ensures { IfOk result (λ key. key ≡ keys.Pid net.now pid.now) }
+    {
+        let net = self.net_name(net)?;
+        Ok(Key::Pid(net, pid.clone()?))
+    }
+
+    /// The key of a prefix in a PID, with their names so.
+    pub fn shared_prefix(
+        &self,
+        net: &NetName,
+        pid: &PidName,
+        prefix: &Prefix,
+    ) -> Result<Key, AllocError>
+        ensures { IfOk result (λ key. key ≡ keys.Prefix net.now pid.now prefix.now) }
+    {
+        let pid = self.pid_name(net, pid)?;
+        Ok(Key::Prefix(self.net_name(net)?, pid, PackedPrefix::new(prefix)))
+    }
+
+    /// The key of a cost, with its names so.
+    fn shared_cost(
+        &self,
+        net: &NetName,
+        metric: &Metric,
+        source: &PidName,
+        destination: &PidName,
+    ) -> Result<Key, AllocError>
+        ensures { IfOk result (λ key. key ≡ keys.Cost net.now metric.now source.now destination.now) }
+    {
+        let metric = self.metric_name(net, metric)?;
+        let source = self.pid_name(net, source)?;
+        let destination = self.pid_name(net, destination)?;
+        Ok(Key::Cost(self.net_name(net)?, metric, source, destination))
+    }
+
+    /// The key of a path, with its names so.
+    fn shared_path(
+        &self,
+        net: &NetName,
+        source: &PidName,
+        destination: &PidName,
+    ) -> Result<Key, AllocError>
+        ensures { IfOk result (λ key. key ≡ keys.Path net.now source.now destination.now) }
+    {
+        let source = self.pid_name(net, source)?;
+        let destination = self.pid_name(net, destination)?;
+        Ok(Key::Path(self.net_name(net)?, source, destination))
+    }
+
+    /// A network's name as the row that declares it has it.
+    fn net_name(&self, net: &NetName) -> Result<NetName, AllocError>
+        ensures { IfOk result (λ name. name ≡ net.now) }
+    {
+        match self.stored(net_key(net)?) {
+            Some(Key::Net(name)) => name.clone(),
+            _ => net.clone(),
+        }
+    }
+
+    /// A PID's name as the row that declares it has it.
+    fn pid_name(&self, net: &NetName, pid: &PidName) -> Result<PidName, AllocError>
+        ensures { IfOk result (λ name. name ≡ pid.now) }
+    {
+        match self.stored(pid_key(net, pid)?) {
+            Some(Key::Pid(_, name)) => name.clone(),
+            _ => pid.clone(),
+        }
+    }
+
+    /// A metric as the row that declares it has it.
+    fn metric_name(&self, net: &NetName, metric: &Metric) -> Result<Metric, AllocError>
+        ensures { IfOk result (λ name. name ≡ metric.now) }
+    {
+        match self.stored(metric_key(net, metric)?) {
+            Some(Key::Metric(_, name)) => name.clone(),
+            _ => metric.clone(),
+        }
+    }
+
+    /// A key as a write or, where none is of it, a row before the batch has it.
+    fn stored(&self, key: Key) -> Option<&Key>
+        ensures { IfSome result (λ at. at.now ≡ key) }
+    {
+        self.found(&key)
+    }
+
+    /// The same of a key that is kept.
+    fn found(&self, key: &Key) -> Option<&Key>
+        ensures { IfSome result (λ at. at.now ≡ key.now) }
+    {
+        match self.kept.index.written.get_key_value(key) {
+            Some((at, _)) => if_same(at, key),
+            None => match self.rows.next_from(key) {
+                Some((at, _)) => if_same(at, key),
+                None => None,
+            },
+        }
+    }
+}
+
+/// The key at hand, where it is the one that is asked for.
+fn if_same<'a>(at: &'a Key, key: &Key) -> Option<&'a Key>
+    ensures { IfSome result (λ same. same.now ≡ key.now) }
+{
+    if at.cmp(key).is_eq() { Some(at) } else { None }
+}
