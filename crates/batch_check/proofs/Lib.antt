@@ -1,0 +1,10 @@
+pub mod Orders
+pub mod RuleLemmas
+pub mod TouchedLemmas
+pub mod EndLemmas
+pub mod BatchLemmas
+pub mod DeclaredLemmas
+pub mod OwnerLemmas
+pub mod NumberLemmas
+pub mod PrefixLemmas
+pub mod StableLemmas

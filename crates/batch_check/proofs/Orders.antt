@@ -1,0 +1,64 @@
+-- The derived orders of keys, resources and places, and what ties in them.
+use Rattle.std.proofs.Common.{◌≡◌, ap, sym, ◌∙◌, subst, rules}
+use Rattle.std.proofs.Math.Path.{fun_ext}
+use Rattle.std.proofs.lemmas.Bool.{and_parts}
+use Rattle.std.proofs.lemmas.Cmp.{eq_by_cmp_equiv, tied_itself}
+use Rattle.std.specs.Cmp.{IsTotalOrder}
+use Rattle.std.specs.Prelude.{ℕ, true, List}
+use Rattle.std.specs.Ordering.{is_eq}
+use Rattle.std.specs.declared.cmp.Ordering.{Ordering}
+use Rattle.alto_addr.specs.Order.{prefix_cmp, addr_cmp}
+use Rattle.alto_addr.specs.declared.prefix.Prefix.{Prefix}
+use Rattle.alto_rows.specs.contracts.key.KeyOrd.TheImpl as key_order
+use Rattle.alto_rows.specs.contracts.resource.ResourceOrd.TheImpl as resource_order
+use Rattle.batch_check.specs.contracts.place.PlaceOrd.TheImpl as place_order
+use Rattle.alto_rows.specs.declared.key.Key.{Key}
+use Rattle.alto_rows.specs.declared.resource.Resource.{Resource}
+use Rattle.alto_rows.specs.Order.{key_cmp, resource_cmp, name_cmp}
+use Rattle.alto_rows.proofs.OrderLemmas.{derived_key_cmp, derived_resource_cmp, equal_tests, prefix_cmp_exact}
+use Rattle.alto_rows.proofs.TouchesLemmas.{both_ties, one_name, same_name_ties}
+use Rattle.batch_check.specs.declared.place.Place.{Place}
+use Rattle.batch_check.specs.Owners.{place_cmp, place_of}
+
+-- what holds of the derived order of keys holds of the order of keys
+pub by_key_cmp : (P : (Key → Key → Ordering) → Type 0) → P key_order.cmp-value.it → P key_cmp
+by_key_cmp P h = subst P (fun_ext (λ a. fun_ext (λ b. derived_key_cmp a b))) h
+
+-- what holds of the derived order of resources holds of the order of resources
+pub by_resource_cmp : (P : (Resource → Resource → Ordering) → Type 0) → P resource_order.cmp-value.it → P resource_cmp
+by_resource_cmp P h = subst P (fun_ext (λ a. fun_ext (λ b. derived_resource_cmp a b))) h
+
+-- the derived comparison of places
+derived_place_cmp : (a b : Place) → place_order.cmp-value.it a b ≡ place_cmp a b
+unfolding place_cmp prefix_cmp addr_cmp
+derived_place_cmp a b = search rules
+
+-- what holds of it holds of the order of places
+pub by_place_cmp : (P : (Place → Place → Ordering) → Type 0) → P place_order.cmp-value.it → P place_cmp
+by_place_cmp P h = subst P (fun_ext (λ a. fun_ext (λ b. derived_place_cmp a b))) h
+
+-- the order of places is total
+pub place_cmp_total : IsTotalOrder place_cmp
+place_cmp_total = by_place_cmp (λ R. IsTotalOrder R) place_order.Laws.total-law
+
+-- places that tie are of one network and one prefix
+pub one_place : (n m : List ℕ) (x y : Prefix) → is_eq (place_cmp (place_of n x) (place_of m y)) ≡ true → (n ≡ m) × (x ≡ y)
+unfolding place_cmp
+one_place n m x y h =
+    let parts : (is_eq (name_cmp n m) ≡ true) × (is_eq (prefix_cmp x y) ≡ true) =
+    and_parts (is_eq (name_cmp n m)) (is_eq (prefix_cmp x y)) (sym (both_ties (name_cmp n m) (prefix_cmp x y)) ∙ h) in
+    (one_name n m (same_name_ties n m ∙ parts.0), prefix_cmp_exact x y (equal_tests (prefix_cmp x y) parts.1))
+
+-- so they are one
+pub the_place : (a b : Place) → is_eq (place_cmp a b) ≡ true → a ≡ b
+the_place a b h =
+    let same : (a.net ≡ b.net) × (a.prefix ≡ b.prefix) = one_place a.net b.net a.prefix b.prefix h in
+    ap (λ (net : List ℕ). place_of net a.prefix) same.0 ∙ ap (λ (prefix : Prefix). place_of b.net prefix) same.1
+
+-- a place ties with itself
+pub place_itself : (a : Place) → is_eq (place_cmp a a) ≡ true
+place_itself a = ap is_eq (tied_itself place_cmp_total a)
+
+-- and two places tie either way
+pub place_back : (a b : Place) → is_eq (place_cmp a b) ≡ is_eq (place_cmp b a)
+place_back a b = (eq_by_cmp_equiv place_cmp_total).symm a b

@@ -1,0 +1,10 @@
+-- The version rows so far are those of the declared ones among the resources so far.
+use Rattle.std.proofs.Common.{◌≡◌}
+use Rattle.std.specs.Prelude.{filter, map}
+use Rattle.alto_rows.specs.Versions.{is_declared}
+use Rattle.alto_edits.specs.Versions.{next_version}
+use Rattle.batch_check.proofs.versions.versions_of.Given as goal
+
+abbrev pub invariant-loop-of : goal.invariant-loop-of
+invariant-loop-of g l =
+    l.versions.items ≡ map (next_version (g.R.RowStore.rows l.rows)) (filter (is_declared (g.R.RowStore.rows l.next)) l.yielded)
