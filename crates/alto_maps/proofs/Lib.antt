@@ -1,0 +1,14 @@
+pub mod SetLemmas
+pub mod PlaceLemmas
+pub mod ObjectLemmas
+pub mod RisingLemmas
+pub mod RunLemmas
+pub mod GroupLemmas
+pub mod MergeLemmas
+pub mod OperationLemmas
+pub mod ExampleLemmas
+pub mod KeyLemmas
+pub mod TouchingLemmas
+pub mod TouchedLemmas
+pub mod FormLemmas
+pub mod WritingLemmas
