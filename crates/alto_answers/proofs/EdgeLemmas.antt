@@ -15,11 +15,13 @@ use Rattle.alto_book.specs.Book.{Book, rows_of}
 use Rattle.alto_book.specs.Legal.{IsLegal}
 use Rattle.alto_book.specs.NumberLaws.{TellsNumbers}
 use Rattle.alto_book.specs.Numbers.{keys_between, rows_at, status_at, updates_graph}
+use Rattle.alto_book.specs.Walks.{document, document_at, patch}
 use Rattle.alto_book.proofs.TellLemmas.{graph_tells}
 use Rattle.alto_desk.specs.Front.{Version, StandsFor, graph_in}
 use Rattle.alto_desk.proofs.FoundLemmas.{graph_found}
-use Rattle.edge_patch.specs.Documents.{document, has_document}
-use Rattle.edge_patch.specs.Merge.{merge_form}
+use Rattle.edge_patch.specs.Documents.{has_document}
+use Rattle.edge_patch.specs.Documents as documents
+use Rattle.edge_patch.specs.declared.form.PatchForm.{PatchForm}
 use Rattle.tips_graph.specs.declared.status.EdgeStatus.{EdgeStatus}
 use Rattle.tips_graph.specs.declared.status.EdgeStatus.TheVariants.{Absent, Gone, Awaited, Ahead, Here}
 use Rattle.tips_graph.specs.Graph.{GraphData, span_of, status_of}
@@ -27,10 +29,10 @@ use Rattle.tips_graph.specs.Graph.{rows_at as graph_rows}
 use Rattle.alto_answers.specs.declared.outcome.Answer.{Answer}
 use Rattle.alto_answers.specs.declared.outcome.Answer.TheVariants as answer
 use Rattle.alto_answers.specs.Answers.{BringsEdits}
-use Rattle.alto_answers.specs.Edges.{edge_by, edge_number, edge_reply, edges_answer, net_edge, numbered_edge}
+use Rattle.alto_answers.specs.Edges.{content_reply, edge_by, edge_number, edge_reply, edges_answer, net_edge, numbered_edge}
 use Rattle.alto_answers.specs.Graphs.{IsGraphOf}
 use Rattle.alto_replies.specs.Replies.{document_reply, not_found}
-use Rattle.alto_answers.specs.Types.{media_type_of, merge_patch_type}
+use Rattle.alto_answers.specs.Types.{media_type_of}
 
 -- what a version has of a resource is the book's graph, where the resource is declared
 pub graph_in_version : (version : Version) (book : Book) (of : Resource) → StandsFor version book
@@ -60,9 +62,9 @@ graph_none version book of stands found =
     left_out (is_declared (rows_of book) of) (updates_graph book of) (found ∙ graph_in_version version book of stands)
 
 -- the status that a graph tells is that of the book
-pub by_status : (graph : GraphData) (book : Book) (of : Resource) (i j : ℕ) (status : EdgeStatus) (answer : Answer) → IsGraphOf graph book of
-    → status ≡ status_of graph i j → answer ≡ edge_by status book of i j → answer ≡ edge_by (status_at book of i j) book of i j
-by_status graph book of i j status answer is told same = same ∙ ap (λ s. edge_by s book of i j) (told ∙ is.tells.status i j)
+pub by_status : (graph : GraphData) (book : Book) (of : Resource) (form : PatchForm) (i j : ℕ) (status : EdgeStatus) (answer : Answer) → IsGraphOf graph book of
+    → status ≡ status_of graph i j → answer ≡ edge_by status book of form i j → answer ≡ edge_by (status_at book of i j) book of form i j
+by_status graph book of form i j status answer is told same = same ∙ ap (λ s. edge_by s book of form i j) (told ∙ is.tells.status i j)
 
 -- an edge that can be had by one book of the graph can be had by another
 pub here_too : (graph : GraphData) (book other : Book) (of : Resource) (i j : ℕ) → IsGraphOf graph book of → IsGraphOf graph other of
@@ -94,34 +96,67 @@ is_zero i h = grind (arith, nat_tests)
 not_zero : (i : ℕ) → (i == 0) ≡ false → 1 ≤ i
 not_zero i h = grind (arith, nat_tests)
 
--- where the graph has keys, the edge is the patch by them
-pub patched : (graph : GraphData) (book : Book) (of : Resource) (i j : ℕ) (rows : Rows) (keys : List Key) → IsGraphOf graph book of
-    → status_at book of i j ≡ Here → rows ≡ rows_at book of j → Some keys ≡ span_of graph i j
-    → document_reply merge_patch_type (merge_form of rows keys) ≡ edge_reply book of i j
-patched graph book of i j rows keys is here same found = by (i == 0) refl
+-- where the graph has keys, the edge leads from a number
+pub low_of_span : (graph : GraphData) (book : Book) (of : Resource) (i j : ℕ) (keys : List Key) → IsGraphOf graph book of
+    → Some keys ≡ span_of graph i j → 1 ≤ i
+low_of_span graph book of i j keys is found = by (i == 0) refl
   where
-    by : (b : Bool) → (i == 0) ≡ b → document_reply merge_patch_type (merge_form of rows keys)
-        ≡ (if b then document_reply (media_type_of of) (document of (rows_at book of j))
-        else document_reply merge_patch_type (merge_form of (rows_at book of j) (keys_between book of i j)))
+    by : (b : Bool) → (i == 0) ≡ b → 1 ≤ i
     by true h =
-        let zero : i ≡ 0 = is_zero i h in
-        let none : Some keys ≡ None = found ∙ ap (λ n. span_of graph n j) zero ∙ is.tells.snapshot j in
+        let none : Some keys ≡ None = found ∙ ap (λ n. span_of graph n j) (is_zero i h) ∙ is.tells.snapshot j in
         cc
-    by false h =
-        let low : 1 ≤ i = not_zero i h in
-        let there : Some keys ≡ Some (keys_between book of i j) = found ∙ is.tells.step i j low here in
-        let between : keys ≡ keys_between book of i j = cc in
-        rw (same, between) refl
+    by false h = not_zero i h
+
+-- the rows that a graph has for its beginning
+pub rows_begin : (graph : GraphData) (book : Book) (of : Resource) (i j : ℕ) (rows : Rows) → IsGraphOf graph book of
+    → status_at book of i j ≡ Here → 1 ≤ i → Some rows ≡ graph_rows graph i → rows ≡ rows_at book of i
+rows_begin graph book of i j rows is here low found =
+    let there : Some rows ≡ Some (rows_at book of i) = found ∙ is.tells.rows i (is.tells.begins i j low here) in cc
+
+-- it has some
+pub rows_began : (graph : GraphData) (book : Book) (of : Resource) (i j : ℕ) → IsGraphOf graph book of
+    → status_at book of i j ≡ Here → 1 ≤ i → None ≡ graph_rows graph i → ⊥
+rows_began graph book of i j is here low none =
+    let there : None ≡ Some (rows_at book of i) = none ∙ is.tells.rows i (is.tells.begins i j low here) in cc
+
+-- they are good
+pub rows_good_before : (graph : GraphData) (book : Book) (of : Resource) (i : ℕ) (rows : Rows) → IsGraphOf graph book of
+    → rows ≡ rows_at book of i → AreGood rows
+rows_good_before graph book of i rows is same = subst AreGood (sym same) (is.tells.good i)
+
+-- they are the keys between the edge's numbers
+keys_of_span : (graph : GraphData) (book : Book) (of : Resource) (i j : ℕ) (keys : List Key) → IsGraphOf graph book of
+    → status_at book of i j ≡ Here → 1 ≤ i → Some keys ≡ span_of graph i j → keys ≡ keys_between book of i j
+keys_of_span graph book of i j keys is here low found =
+    let there : Some keys ≡ Some (keys_between book of i j) = found ∙ is.tells.step i j low here in cc
+
+-- the edge is the patch by the graph's keys
+pub patched : (graph : GraphData) (book : Book) (of : Resource) (form : PatchForm) (i j : ℕ) (before rows : Rows) (keys : List Key) → IsGraphOf graph book of
+    → status_at book of i j ≡ Here → before ≡ rows_at book of i → rows ≡ rows_at book of j → Some keys ≡ span_of graph i j
+    → content_reply of (patch form of before rows keys) ≡ edge_reply book of form i j
+patched graph book of form i j before rows keys is here began same found = by (i == 0) refl
+  where
+    low : 1 ≤ i
+    low = low_of_span graph book of i j keys is found
+
+    between : keys ≡ keys_between book of i j
+    between = keys_of_span graph book of i j keys is here low found
+
+    by : (b : Bool) → (i == 0) ≡ b → content_reply of (patch form of before rows keys)
+        ≡ content_reply of
+        (if b then document (document_at book of j) else patch form of (rows_at book of i) (rows_at book of j) (keys_between book of i j))
+    by true h = absurd (omega (arith, low, is_zero i h))
+    by false h = λ n. content_reply of (patch form of (began n) (same n) (between n))
 
 -- and where it has none, the edge is the document
-pub whole_document : (graph : GraphData) (book : Book) (of : Resource) (i j : ℕ) (rows : Rows) → IsGraphOf graph book of
+pub whole_document : (graph : GraphData) (book : Book) (of : Resource) (form : PatchForm) (i j : ℕ) (rows : Rows) → IsGraphOf graph book of
     → status_at book of i j ≡ Here → rows ≡ rows_at book of j → None ≡ span_of graph i j
-    → document_reply (media_type_of of) (document of rows) ≡ edge_reply book of i j
-whole_document graph book of i j rows is here same found = by (i == 0) refl
+    → document_reply (media_type_of of) (documents.document of rows) ≡ edge_reply book of form i j
+whole_document graph book of form i j rows is here same found = by (i == 0) refl
   where
-    by : (b : Bool) → (i == 0) ≡ b → document_reply (media_type_of of) (document of rows)
-        ≡ (if b then document_reply (media_type_of of) (document of (rows_at book of j))
-        else document_reply merge_patch_type (merge_form of (rows_at book of j) (keys_between book of i j)))
+    by : (b : Bool) → (i == 0) ≡ b → document_reply (media_type_of of) (documents.document of rows)
+        ≡ content_reply of
+        (if b then document (document_at book of j) else patch form of (rows_at book of i) (rows_at book of j) (keys_between book of i j))
     by true h = rw same refl
     by false h =
         let low : 1 ≤ i = not_zero i h in
@@ -130,28 +165,29 @@ whole_document graph book of i j rows is here same found = by (i == 0) refl
 
 -- ---- an edge brings no import
 
-edge_brings : (status : EdgeStatus) (book : Book) (of : Resource) (i j : ℕ) → BringsEdits (edge_by status book of i j)
-edge_brings Absent book of i j = tt
-edge_brings Gone book of i j = tt
-edge_brings Awaited book of i j = tt
-edge_brings Ahead book of i j = tt
-edge_brings Here book of i j = tt
+edge_brings : (status : EdgeStatus) (book : Book) (of : Resource) (form : PatchForm) (i j : ℕ) → BringsEdits (edge_by status book of form i j)
+edge_brings Absent book of form i j = tt
+edge_brings Gone book of form i j = tt
+edge_brings Awaited book of form i j = tt
+edge_brings Ahead book of form i j = tt
+edge_brings Here book of form i j = tt
 
-numbered_brings : (book : Book) (of : Resource) (i j : Option ℕ) → BringsEdits (numbered_edge book of i j)
-numbered_brings book of None j = tt
-numbered_brings book of (Some i) None = tt
-numbered_brings book of (Some i) (Some j) = edge_brings (status_at book of i j) book of i j
+numbered_brings : (book : Book) (of : Resource) (form : PatchForm) (i j : Option ℕ) → BringsEdits (numbered_edge book of form i j)
+numbered_brings book of form None j = tt
+numbered_brings book of form (Some i) None = tt
+numbered_brings book of form (Some i) (Some j) = edge_brings (status_at book of i j) book of form i j
 
-declared_brings : (b : Bool) (book : Book) (of : Resource) (i j : Option ℕ)
-    → BringsEdits (if b then numbered_edge book of i j else answer.Reply (not_found (codes "resource")))
-declared_brings true book of i j = numbered_brings book of i j
-declared_brings false book of i j = tt
+declared_brings : (b : Bool) (book : Book) (of : Resource) (form : PatchForm) (i j : Option ℕ)
+    → BringsEdits (if b then numbered_edge book of form i j else answer.Reply (not_found (codes "resource")))
+declared_brings true book of form i j = numbered_brings book of form i j
+declared_brings false book of form i j = tt
 
-net_brings : (book : Book) (net : Result (List ℕ) NameFault) (i j : List ℕ) → BringsEdits (net_edge book net i j)
-net_brings book (Err fault) i j = tt
-net_brings book (Ok net) i j = declared_brings (is_declared (rows_of book) (resource.Net net)) book (resource.Net net) (edge_number i) (edge_number j)
+net_brings : (book : Book) (net : Result (List ℕ) NameFault) (form : PatchForm) (i j : List ℕ) → BringsEdits (net_edge book net form i j)
+net_brings book (Err fault) form i j = tt
+net_brings book (Ok net) form i j =
+    declared_brings (is_declared (rows_of book) (resource.Net net)) book (resource.Net net) form (edge_number i) (edge_number j)
 
-pub edges_bring_none : (verb : Verb) (book : Book) (resource i j : List ℕ) → BringsEdits (edges_answer verb book resource i j)
-edges_bring_none verb.Get book resource i j = net_brings book (named is_net_byte 24 resource) i j
-edges_bring_none verb.Post book resource i j = tt
-edges_bring_none verb.Other book resource i j = tt
+pub edges_bring_none : (verb : Verb) (book : Book) (form : PatchForm) (resource i j : List ℕ) → BringsEdits (edges_answer verb book form resource i j)
+edges_bring_none verb.Get book form resource i j = net_brings book (named is_net_byte 24 resource) form i j
+edges_bring_none verb.Post book form resource i j = tt
+edges_bring_none verb.Other book form resource i j = tt

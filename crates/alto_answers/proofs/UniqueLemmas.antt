@@ -43,6 +43,7 @@ edits_once verb.Other content_type id body = λ one other h k. h ∙ sym k
 place_once : (at : Option Place) (request : RequestData) (book : Book) → AtMostOne (PlaceAnswers at request book)
 place_once None request book = λ one other h k. h ∙ sym k
 place_once (Some place.Maps) request book = λ one other h k. h ∙ sym k
+place_once (Some place.FilterNet) request book = λ one other h k. h ∙ sym k
 place_once (Some place.Tips) request book = λ one other h k. h ∙ sym k
 place_once (Some place.Edge) request book = λ one other h k. h ∙ sym k
 place_once (Some place.Edits) request book =

@@ -24,7 +24,9 @@ use Rattle.alto_answers.specs.Routes.{place_of}
 use Rattle.alto_answers.specs.Target.{path_of, segment}
 use Rattle.alto_answers.specs.Tips.{tips_answer}
 use Rattle.alto_answers.specs.Types.{network_map_type}
+use Rattle.alto_answers.specs.Accept.{patch_form}
 use Rattle.alto_answers.specs.Edges.{edges_answer}
+use Rattle.alto_answers.specs.FilterNet.{filter_net_answer}
 use Rattle.alto_answers.specs.Forms.{Reads, form_of}
 use Rattle.alto_answers.specs.declared.form.Form.{Form}
 
@@ -73,11 +75,13 @@ abbrev pub PlaceAnswers : Option Place → RequestData → Book → Answer → T
 PlaceAnswers None request book given = given ≡ answer.Reply (not_found (codes "route"))
 PlaceAnswers (Some place.Maps) request book given =
     given ≡ maps_answer request.verb (rows_of book) (segment (path_of request.target) 2)
+PlaceAnswers (Some place.FilterNet) request book given =
+    given ≡ filter_net_answer request.verb request.content_type (rows_of book) (segment (path_of request.target) 3) request.body
 PlaceAnswers (Some place.Tips) request book given =
     given ≡ tips_answer request.verb request.content_type book request.host request.body
 PlaceAnswers (Some place.Edge) request book given =
     let path = path_of request.target in
-    given ≡ edges_answer request.verb book (segment path 2) (segment path 4) (segment path 5)
+    given ≡ edges_answer request.verb book (patch_form request.accept) (segment path 2) (segment path 4) (segment path 5)
 PlaceAnswers (Some place.Edits) request book given =
     EditsAnswer request.verb request.content_type (segment (path_of request.target) 2) request.body given
 

@@ -7,19 +7,19 @@ use Rattle.alto_rows.specs.declared.resource.Resource.{Resource}
 use Rattle.alto_rows.specs.declared.resource.Resource.TheVariants as resource
 use Rattle.alto_rows.specs.Versions.{is_declared, version_of}
 use Rattle.alto_book.specs.Book.{Book, rows_of}
-use Rattle.alto_book.specs.Numbers.{first_kept, keys_between, rows_at, status_at}
+use Rattle.alto_book.specs.Numbers.{first_kept, status_at}
+use Rattle.alto_book.specs.Walks.{Content, content_data, document, edge_content, merge_patch, operations}
 use Rattle.alto_http.specs.declared.request.Verb.{Verb}
 use Rattle.alto_http.specs.declared.request.Verb.TheVariants as verb
 use Rattle.alto_http.specs.Fields.{is_decimal}
-use Rattle.edge_patch.specs.Documents.{document}
-use Rattle.edge_patch.specs.Merge.{merge_form}
+use Rattle.edge_patch.specs.declared.form.PatchForm.{PatchForm}
 use Rattle.tips_graph.specs.declared.status.EdgeStatus.{EdgeStatus}
 use Rattle.tips_graph.specs.declared.status.EdgeStatus.TheVariants.{Absent, Gone, Awaited, Ahead, Here}
 use Rattle.alto_answers.specs.declared.outcome.Answer.{Answer}
 use Rattle.alto_answers.specs.declared.outcome.Answer.TheVariants as answer
 use Rattle.alto_replies.specs.Replies.{document_reply, gone, not_found, too_early, wrong_method}
 use Rattle.alto_replies.specs.Reply.{ReplyData}
-use Rattle.alto_answers.specs.Types.{media_type_of, merge_patch_type}
+use Rattle.alto_answers.specs.Types.{json_patch_type, media_type_of, merge_patch_type}
 
 -- the code of the digit 0
 abbrev pub zero_digit : ℕ
@@ -38,39 +38,47 @@ is_edge_number text = is_decimal text && nat_le (length text) 18 && not (has_lea
 abbrev pub edge_number : List ℕ → Option ℕ
 edge_number text = if is_edge_number text then Some (digits_value 10 text) else None
 
--- an edge that can be had: from 0 the document at a number, else the merge patch that leads to it
-abbrev pub edge_reply : Book → Resource → ℕ → ℕ → ReplyData
-edge_reply book of i j =
-    if i == 0 then document_reply (media_type_of of) (document of (rows_at book of j))
-    else document_reply merge_patch_type (merge_form of (rows_at book of j) (keys_between book of i j))
+-- the media type of what an edge holds
+abbrev pub content_type : Resource → Content → List ℕ
+content_type of (document whole) = media_type_of of
+content_type of (merge_patch change) = merge_patch_type
+content_type of (operations changes) = json_patch_type
+
+-- the reply that holds it
+abbrev pub content_reply : Resource → Content → ReplyData
+content_reply of content = document_reply (content_type of content) (content_data content)
+
+-- an edge that can be had: from 0 the document at a number, else the patch that leads to it, in a form
+abbrev pub edge_reply : Book → Resource → PatchForm → ℕ → ℕ → ReplyData
+edge_reply book of form i j = content_reply of (edge_content book of form i j)
 
 -- what an edge with a status is answered
-abbrev pub edge_by : EdgeStatus → Book → Resource → ℕ → ℕ → Answer
-edge_by Absent book of i j = answer.Reply (not_found (codes "edge"))
-edge_by Gone book of i j = answer.Reply (gone (first_kept book of))
-edge_by Awaited book of i j = answer.Hold of i j
-edge_by Ahead book of i j = answer.Reply (too_early (version_of (rows_of book) of))
-edge_by Here book of i j = answer.Reply (edge_reply book of i j)
+abbrev pub edge_by : EdgeStatus → Book → Resource → PatchForm → ℕ → ℕ → Answer
+edge_by Absent book of form i j = answer.Reply (not_found (codes "edge"))
+edge_by Gone book of form i j = answer.Reply (gone (first_kept book of))
+edge_by Awaited book of form i j = answer.Hold of i j
+edge_by Ahead book of form i j = answer.Reply (too_early (version_of (rows_of book) of))
+edge_by Here book of form i j = answer.Reply (edge_reply book of form i j)
 
 -- the edge of a declared resource between two numbers, if they are numbers
-abbrev pub numbered_edge : Book → Resource → Option ℕ → Option ℕ → Answer
-numbered_edge book of (Some i) (Some j) = edge_by (status_at book of i j) book of i j
-numbered_edge book of (Some i) None = answer.Reply (not_found (codes "edge"))
-numbered_edge book of None j = answer.Reply (not_found (codes "edge"))
+abbrev pub numbered_edge : Book → Resource → PatchForm → Option ℕ → Option ℕ → Answer
+numbered_edge book of form (Some i) (Some j) = edge_by (status_at book of i j) book of form i j
+numbered_edge book of form (Some i) None = answer.Reply (not_found (codes "edge"))
+numbered_edge book of form None j = answer.Reply (not_found (codes "edge"))
 
 -- the edge of a resource, if it is declared
-abbrev pub declared_edge : Book → Resource → List ℕ → List ℕ → Answer
-declared_edge book of i j =
-    if is_declared (rows_of book) of then numbered_edge book of (edge_number i) (edge_number j)
+abbrev pub declared_edge : Book → Resource → PatchForm → List ℕ → List ℕ → Answer
+declared_edge book of form i j =
+    if is_declared (rows_of book) of then numbered_edge book of form (edge_number i) (edge_number j)
     else answer.Reply (not_found (codes "resource"))
 
 -- the edge of the network map that a text names
-abbrev pub net_edge : Book → Result (List ℕ) NameFault → List ℕ → List ℕ → Answer
-net_edge book (Err fault) i j = answer.Reply (not_found (codes "resource"))
-net_edge book (Ok net) i j = declared_edge book (resource.Net net) i j
+abbrev pub net_edge : Book → Result (List ℕ) NameFault → PatchForm → List ℕ → List ℕ → Answer
+net_edge book (Err fault) form i j = answer.Reply (not_found (codes "resource"))
+net_edge book (Ok net) form i j = declared_edge book (resource.Net net) form i j
 
--- `/tips/{resource}/ug/{i}/{j}`: an edge of a resource
-abbrev pub edges_answer : Verb → Book → List ℕ → List ℕ → List ℕ → Answer
-edges_answer verb.Get book resource i j = net_edge book (named is_net_byte 24 resource) i j
-edges_answer verb.Post book resource i j = answer.Reply (wrong_method verb.Get)
-edges_answer verb.Other book resource i j = answer.Reply (wrong_method verb.Get)
+-- `/tips/{resource}/ug/{i}/{j}`: an edge of a resource, a patch in the form that the client takes
+abbrev pub edges_answer : Verb → Book → PatchForm → List ℕ → List ℕ → List ℕ → Answer
+edges_answer verb.Get book form resource i j = net_edge book (named is_net_byte 24 resource) form i j
+edges_answer verb.Post book form resource i j = answer.Reply (wrong_method verb.Get)
+edges_answer verb.Other book form resource i j = answer.Reply (wrong_method verb.Get)

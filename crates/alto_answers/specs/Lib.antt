@@ -1,6 +1,8 @@
+pub mod Accept
 pub mod Answers
 pub mod Authority
 pub mod Edges
+pub mod FilterNet
 pub mod Forms
 pub mod Graphs
 pub mod Opening

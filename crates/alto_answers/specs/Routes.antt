@@ -16,6 +16,7 @@ use Rattle.alto_answers.specs.declared.route.Side.TheVariants as side
 abbrev pub public_routes : List (List ℕ × Place)
 public_routes =
     (codes "/maps/{resource}", place.Maps)
+    ∷ (codes "/filter/net/{net}", place.FilterNet)
     ∷ (codes "/tips", place.Tips)
     ∷ (codes "/tips/{resource}/ug/{i}/{j}", place.Edge)
     ∷ []

@@ -24,3 +24,7 @@ media_type_of (resource.Prop net) = property_map_type
 -- the media type of a merge patch
 abbrev pub merge_patch_type : List ℕ
 merge_patch_type = codes "application/merge-patch+json"
+
+-- the media type of a JSON Patch (RFC 6902, section 6)
+abbrev pub json_patch_type : List ℕ
+json_patch_type = codes "application/json-patch+json"

@@ -7,6 +7,7 @@ ghost use Rattle.alto_answers.specs.Graphs.{IsVersion};
 
 use crate::edges::edges;
 use crate::edits::edits;
+use crate::filter_net::filter_net_answer;
 use crate::maps::maps;
 use crate::outcome::Answer;
 use crate::route::Place;
@@ -39,8 +40,9 @@ pub fn answer<R: RowStore>(
     match routes.place(path) {
         None => Ok(Answer::Reply(not_found(alloc, "route")?)),
         Some(Place::Maps) => maps(alloc, &*front.rows, request.verb, path),
+        Some(Place::FilterNet) => filter_net_answer(alloc, &*front.rows, request, path),
         Some(Place::Tips) => tips(alloc, front, request),
-        Some(Place::Edge) => edges(alloc, front, request.verb, path),
+        Some(Place::Edge) => edges(alloc, front, request, path),
         Some(Place::Edits) => edits(alloc, request, path),
     }
 }

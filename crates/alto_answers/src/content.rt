@@ -26,7 +26,7 @@ fn names(value: &[u8], wanted: &[u8]) -> bool
     trim(before_parameters(value)).eq_ignore_ascii_case(wanted)
 }
 
-fn before_parameters(value: &[u8]) -> &[u8]
+pub(crate) fn before_parameters(value: &[u8]) -> &[u8]
     ensures { result.now ≡ before_first (λ b. b == semicolon) value.now }
 {
     &value[..place_of(value, b';')]

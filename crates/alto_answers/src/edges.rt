@@ -3,27 +3,34 @@ ghost use Rattle.std.specs.Prelude.{◌≡◌, ℕ, true, IfOk};
 ghost use Rattle.std.specs.Str.Parse.{digits_value};
 ghost use Rattle.alto_names.specs.Name.{named, is_net_byte};
 ghost use Rattle.alto_rows.specs.declared.resource.Resource.TheVariants as resource;
+ghost use Rattle.alto_rows.specs.Good.{AreGood};
+ghost use Rattle.alto_rows.specs.Versions.{is_declared};
 ghost use Rattle.alto_book.specs.Book.{Book};
 ghost use Rattle.alto_book.specs.Legal.{IsLegal};
 ghost use Rattle.alto_book.specs.Numbers.{status_at};
+ghost use Rattle.alto_book.specs.Walks.{patch};
 ghost use Rattle.alto_desk.specs.Front.{StandsFor};
 ghost use Rattle.edge_patch.specs.Documents.{has_document};
 ghost use Rattle.tips_graph.specs.declared.status.EdgeStatus.TheVariants.{Here};
+ghost use Rattle.alto_answers.specs.Accept.{patch_form};
 ghost use Rattle.alto_answers.specs.Answers.{HasBytes};
 ghost use Rattle.alto_replies.specs.Reply.{IsReply};
-ghost use Rattle.alto_answers.specs.Edges.{declared_edge, edge_by, edge_number, edge_reply, edges_answer, has_leading_zero, is_edge_number, net_edge, numbered_edge};
+ghost use Rattle.alto_answers.specs.Edges.{content_reply, declared_edge, edge_by, edge_number, edge_reply, edges_answer};
+ghost use Rattle.alto_answers.specs.Edges.{has_leading_zero, is_edge_number, net_edge, numbered_edge};
 ghost use Rattle.alto_answers.specs.Graphs.{IsGraphOf, IsVersion};
 ghost use Rattle.alto_answers.specs.Target.{segment};
 
+use crate::accept::patch_form;
 use crate::outcome::Answer;
 use crate::target::segment;
-use crate::types::{MERGE_PATCH, media_type};
+use crate::types::{JSON_PATCH, MERGE_PATCH, media_type};
 use alto_desk::Front;
-use alto_http::{Verb, is_decimal};
+use alto_http::{Request, Verb, is_decimal};
 use alto_names::{NameFault, NetName};
 use alto_replies::{Reply, document_reply, gone, not_found, too_early, wrong_method};
-use alto_rows::{Resource, RowStore};
-use edge_patch::{merge_edge, snapshot};
+use alto_rows::{Key, Resource, RowStore};
+use edge_patch::{PatchForm, json_edge, merge_edge, snapshot};
+use json_patch::ops_tree;
 use std::alloc::{AllocError, Global};
 use tips_graph::{EdgeStatus, Graph};
 
@@ -34,20 +41,21 @@ const MOST_DIGITS: usize = 18;
 pub(crate) fn edges<R: RowStore>(
     alloc: Global,
     front: &Front<R>,
-    verb: Verb,
+    request: &Request,
     path: &[u8],
 ) -> Result<Answer, AllocError>
     requires { IsVersion front.now }
     ensures has_bytes { IfOk result HasBytes }
     ensures answer { IfOk result (λ answer. (book : Book) → IsLegal book → StandsFor front.now book
-        → answer ≡ edges_answer verb book (segment path.now 2) (segment path.now 4) (segment path.now 5)) }
+        → answer ≡ edges_answer request.now.verb book (patch_form request.now.accept)
+        (segment path.now 2) (segment path.now 4) (segment path.now 5)) }
 {
-    match verb {
+    match request.verb {
         Verb::Get => {
             let resource = segment(alloc, path, 2)?;
             let i = segment(alloc, path, 4)?;
             let j = segment(alloc, path, 5)?;
-            net_edge(alloc, front, &resource, &i, &j)
+            net_edge(alloc, front, &resource, patch_form(request), &i, &j)
         }
         Verb::Post | Verb::Other => Ok(Answer::Reply(wrong_method(alloc, Verb::Get)?)),
     }
@@ -58,16 +66,17 @@ fn net_edge<R: RowStore>(
     alloc: Global,
     front: &Front<R>,
     resource: &[u8],
+    form: PatchForm,
     i: &[u8],
     j: &[u8],
 ) -> Result<Answer, AllocError>
     requires { IsVersion front.now }
     ensures has_bytes { IfOk result HasBytes }
     ensures answer { IfOk result (λ answer. (book : Book) → IsLegal book → StandsFor front.now book
-        → answer ≡ net_edge book (named is_net_byte 24 resource.now) i.now j.now) }
+        → answer ≡ net_edge book (named is_net_byte 24 resource.now) form i.now j.now) }
 {
     match NetName::read(alloc, resource) {
-        Ok(net) => declared_edge(alloc, front, Resource::Net(net), i, j),
+        Ok(net) => declared_edge(alloc, front, Resource::Net(net), form, i, j),
         Err(NameFault::Memory) => Err(AllocError),
         Err(_) => Ok(Answer::Reply(not_found(alloc, "resource")?)),
     }
@@ -77,6 +86,7 @@ fn declared_edge<R: RowStore>(
     alloc: Global,
     front: &Front<R>,
     resource: Resource,
+    form: PatchForm,
     i: &[u8],
     j: &[u8],
 ) -> Result<Answer, AllocError>
@@ -84,10 +94,10 @@ fn declared_edge<R: RowStore>(
     requires documents { has_document resource ≡ true }
     ensures has_bytes { IfOk result HasBytes }
     ensures answer { IfOk result (λ answer. (book : Book) → IsLegal book → StandsFor front.now book
-        → answer ≡ declared_edge book resource i.now j.now) }
+        → answer ≡ declared_edge book resource form i.now j.now) }
 {
     match front.graph(&resource) {
-        Some(graph) => numbered_edge(alloc, graph, resource, edge_number(i), edge_number(j)),
+        Some(graph) => numbered_edge(alloc, graph, resource, form, edge_number(i), edge_number(j)),
         None => Ok(Answer::Reply(not_found(alloc, "resource")?)),
     }
 }
@@ -97,13 +107,14 @@ fn numbered_edge<R: RowStore>(
     alloc: Global,
     graph: &Graph<R>,
     resource: Resource,
+    form: PatchForm,
     i: Option<u64>,
     j: Option<u64>,
 ) -> Result<Answer, AllocError>
     requires { (book : Book) × IsGraphOf graph.now book resource }
     ensures has_bytes { IfOk result HasBytes }
     ensures answer { IfOk result (λ answer. (book : Book) → IsGraphOf graph.now book resource
-        → answer ≡ numbered_edge book resource i j) }
+        → answer ≡ numbered_edge book resource form i j) }
 {
     let Some(i) = i else {
         return Ok(Answer::Reply(not_found(alloc, "edge")?));
@@ -111,7 +122,7 @@ fn numbered_edge<R: RowStore>(
     let Some(j) = j else {
         return Ok(Answer::Reply(not_found(alloc, "edge")?));
     };
-    edge_by(alloc, graph, resource, i, j)
+    edge_by(alloc, graph, resource, form, i, j)
 }
 
 /// What an edge is answered by its status.
@@ -119,20 +130,21 @@ fn edge_by<R: RowStore>(
     alloc: Global,
     graph: &Graph<R>,
     resource: Resource,
+    form: PatchForm,
     i: u64,
     j: u64,
 ) -> Result<Answer, AllocError>
     requires { (book : Book) × IsGraphOf graph.now book resource }
     ensures has_bytes { IfOk result HasBytes }
     ensures answer { IfOk result (λ answer. (book : Book) → IsGraphOf graph.now book resource
-        → answer ≡ edge_by (status_at book resource i j) book resource i j) }
+        → answer ≡ edge_by (status_at book resource i j) book resource form i j) }
 {
     match graph.status(i, j) {
         EdgeStatus::Absent => Ok(Answer::Reply(not_found(alloc, "edge")?)),
         EdgeStatus::Gone => Ok(Answer::Reply(gone(alloc, graph.first())?)),
         EdgeStatus::Awaited => Ok(Answer::Hold { resource, i, j }),
         EdgeStatus::Ahead => Ok(Answer::Reply(too_early(alloc, graph.last())?)),
-        EdgeStatus::Here => Ok(Answer::Reply(edge_reply(alloc, graph, &resource, i, j)?)),
+        EdgeStatus::Here => Ok(Answer::Reply(edge_reply(alloc, graph, &resource, form, i, j)?)),
     }
 }
 
@@ -141,25 +153,53 @@ fn edge_reply<R: RowStore>(
     alloc: Global,
     graph: &Graph<R>,
     resource: &Resource,
+    form: PatchForm,
     i: u64,
     j: u64,
 ) -> Result<Reply, AllocError>
     requires { (book : Book) × IsGraphOf graph.now book resource.now × (status_at book resource.now i j ≡ Here) }
     ensures has_bytes { IfOk result IsReply }
     ensures reply { IfOk result (λ reply. (book : Book) → IsGraphOf graph.now book resource.now
-        → reply ≡ edge_reply book resource.now i j) }
+        → reply ≡ edge_reply book resource.now form i j) }
 {
     let Some(rows) = graph.rows_at(j) else {
         unreachable!();
     };
-    match graph.span(i, j) {
-        Some(keys) => {
-            let patch = merge_edge(alloc, resource, &**rows, keys)?;
-            document_reply(alloc, MERGE_PATCH, &patch)
+    let Some(keys) = graph.span(i, j) else {
+        let document = snapshot(alloc, resource, &**rows)?;
+        return document_reply(alloc, media_type(resource), &document);
+    };
+    let Some(before) = graph.rows_at(i) else {
+        unreachable!();
+    };
+    patch_reply(alloc, resource, form, &**before, &**rows, keys)
+}
+
+/// The patch that leads from rows to others which differ at these keys.
+fn patch_reply<R: RowStore>(
+    alloc: Global,
+    resource: &Resource,
+    form: PatchForm,
+    before: &R,
+    after: &R,
+    keys: &[Key],
+) -> Result<Reply, AllocError>
+    requires good_before { AreGood (R.rows before.now) }
+    requires good { AreGood (R.rows after.now) }
+    requires declared { is_declared (R.rows after.now) resource.now ≡ true }
+    requires kind { has_document resource.now ≡ true }
+    ensures has_bytes { IfOk result IsReply }
+    ensures reply { IfOk result (λ reply. reply
+        ≡ content_reply resource.now (patch form resource.now (R.rows before.now) (R.rows after.now) keys.now)) }
+{
+    match form {
+        PatchForm::Merge => {
+            let change = merge_edge(alloc, resource, after, keys)?;
+            document_reply(alloc, MERGE_PATCH, &change)
         }
-        None => {
-            let document = snapshot(alloc, resource, &**rows)?;
-            document_reply(alloc, media_type(resource), &document)
+        PatchForm::Operations => {
+            let changes = json_edge(alloc, resource, before, after, keys)?;
+            document_reply(alloc, JSON_PATCH, &ops_tree(alloc, &changes)?)
         }
     }
 }

@@ -8,12 +8,14 @@
 //! ```
 #![tactic(auto)]
 
+mod accept;
 mod answering;
 mod authority;
 mod bytes;
 mod content;
 mod edges;
 mod edits;
+mod filter_net;
 mod form;
 mod held;
 mod laws;

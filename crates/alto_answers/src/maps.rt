@@ -58,7 +58,7 @@ fn net_reply<R: RowStore>(alloc: Global, rows: &R, net: &NetName) -> Result<Repl
     }
 }
 
-fn is_declared<R: RowStore>(rows: &R, net: &NetName) -> Result<bool, AllocError>
+pub(crate) fn is_declared<R: RowStore>(rows: &R, net: &NetName) -> Result<bool, AllocError>
     ensures { IfOk result (λ declared. declared ≡ has_row (R.rows rows.now) (key.Net net.now)) }
 {
     let key = Key::Net(net.clone()?);

@@ -14,6 +14,8 @@ pub enum Side {
 pub enum Place {
     /// `/maps/{resource}`: the document of a resource.
     Maps,
+    /// `/filter/net/{net}`: a filtered network map.
+    FilterNet,
     /// `/tips`: the view of a resource.
     Tips,
     /// `/tips/{resource}/ug/{i}/{j}`: an edge of a resource's updates graph.

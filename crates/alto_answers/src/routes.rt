@@ -12,6 +12,8 @@ use std::str;
 
 const MAPS: &str = "/maps/{resource}";
 
+const FILTER_NET: &str = "/filter/net/{net}";
+
 const TIPS: &str = "/tips";
 
 const EDGE: &str = "/tips/{resource}/ug/{i}/{j}";
@@ -75,6 +77,7 @@ fn public_router(alloc: Global) -> Result<Router<Place>, AllocError>
 {
     let mut router = Router::new(alloc);
     add(&mut router, MAPS, Place::Maps)?;
+    add(&mut router, FILTER_NET, Place::FilterNet)?;
     add(&mut router, TIPS, Place::Tips)?;
     add(&mut router, EDGE, Place::Edge)?;
     Ok(router)

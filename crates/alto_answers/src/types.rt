@@ -16,6 +16,9 @@ const PROPERTY_MAP: &str = "application/alto-propmap+json";
 /// The media type of a merge patch (RFC 7396, section 4).
 pub(crate) const MERGE_PATCH: &str = "application/merge-patch+json";
 
+/// The media type of a JSON Patch (RFC 6902, section 6).
+pub(crate) const JSON_PATCH: &str = "application/json-patch+json";
+
 /// The media type of a resource's document.
 pub(crate) fn media_type(resource: &Resource) -> &'static str
     ensures { result.now ≡ media_type_of resource.now }

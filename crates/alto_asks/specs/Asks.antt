@@ -1,7 +1,7 @@
 -- The body of an ask: an object, and the texts among its members, with the fault of each (RFC 7285, section 8.5.2).
-use Rattle.std.specs.Prelude.{ℕ, List, Option, Some, None, is_some, Result, Ok, Err, if◌then◌else◌, codes}
-use Rattle.serde_json.specs.Data.{Data}
-use Rattle.serde_json.specs.Find.{get, as_object, as_str}
+use Rattle.std.specs.Prelude.{ℕ, List, [], ◌∷◌, Option, Some, None, is_some, Result, Ok, Err, if◌then◌else◌, codes}
+use Rattle.serde_json.specs.Data.{Data, Items, no_items, item}
+use Rattle.serde_json.specs.Find.{get, as_array, as_object, as_str}
 use Rattle.json_tree.specs.declared.fault.TreeFault.{TreeFault}
 use Rattle.json_tree.specs.Whole.{whole_value}
 use Rattle.alto_asks.specs.declared.fault.AskCode.{AskCode}
@@ -69,3 +69,32 @@ required_text field ask = required_in field (get field ask)
 -- the text that an ask may have in a field
 unfoldable pub optional_text : List ℕ → Data → Result (Option (List ℕ)) AskFault
 optional_text field ask = optional_in field (get field ask)
+
+-- the texts that the items of a list are, or the fault of the first that is none
+abbrev pub texts_of : List ℕ → Items → Result (List (List ℕ)) AskFault
+texts_of field no_items = Ok []
+texts_of field (item value items) =
+    text_in field (as_str value) >>= λ text. texts_of field items >>= λ texts. Ok (text ∷ texts)
+
+-- the items of a field's value, if it is a list
+abbrev pub items_in : List ℕ → Option Items → Result Items AskFault
+items_in field (Some items) = Ok items
+items_in field None = Err (wrong_type field)
+
+-- the items of a list that must be there
+abbrev pub required_list : List ℕ → Option Data → Result Items AskFault
+required_list field (Some value) = items_in field (as_array value)
+required_list field None = Err (missing field)
+
+-- the items of a list that may be absent, which is then empty
+abbrev pub optional_list : List ℕ → Option Data → Result Items AskFault
+optional_list field (Some value) = items_in field (as_array value)
+optional_list field None = Ok no_items
+
+-- the items of the list that an ask must have in a field
+unfoldable pub required_items : List ℕ → Data → Result Items AskFault
+required_items field ask = required_list field (get field ask)
+
+-- the items of the list that an ask may have in a field
+unfoldable pub optional_items : List ℕ → Data → Result Items AskFault
+optional_items field ask = optional_list field (get field ask)

@@ -1,7 +1,7 @@
-ghost use Rattle.std.specs.Prelude.{◌≡◌, ◌≢◌, Ok, Err, IfOk, IfErr, is_some, option_map};
-ghost use Rattle.serde_json.specs.Find.{as_object, as_str};
-ghost use Rattle.json_tree.specs.Tree.{data_of};
-ghost use Rattle.alto_asks.specs.Asks.{ask_of, object_or_fault, text_in, required_text, optional_text};
+ghost use Rattle.std.specs.Prelude.{◌≡◌, ◌≢◌, Ok, Err, IfOk, IfErr, is_some, option_map, map};
+ghost use Rattle.serde_json.specs.Find.{as_array, as_object, as_str};
+ghost use Rattle.json_tree.specs.Tree.{data_of, items_data};
+ghost use Rattle.alto_asks.specs.Asks.{ask_of, object_or_fault, text_in, texts_of, items_in, required_text, required_items, optional_text, optional_items};
 
 use crate::fault::AskFault;
 use json_tree::{Tree, TreeFault, read};
@@ -81,7 +81,12 @@ pub fn optional_text<'t>(
     }
 }
 
-fn text_in<'t>(alloc: Global, field: &str, value: &'t Tree) -> Result<&'t str, AskFault>
+/// The text that a field's value is.
+///
+/// # Errors
+///
+/// `Bad` with `InvalidFieldType` where it is none.
+pub fn text_in<'t>(alloc: Global, field: &str, value: &'t Tree) -> Result<&'t str, AskFault>
     ensures ok { IfOk result (λ text. text_in field.now (as_str (data_of value.now)) ≡ Ok text.now) }
     ensures err { IfErr result (λ fault. fault ≢ AskFault.Memory
         → text_in field.now (as_str (data_of value.now)) ≡ Err fault) }
@@ -90,4 +95,67 @@ fn text_in<'t>(alloc: Global, field: &str, value: &'t Tree) -> Result<&'t str, A
         Some(text) => Ok(text),
         None => Err(AskFault::wrong_type(alloc, field)?),
     }
+}
+
+/// The items of the list that an ask must have in a field.
+///
+/// # Errors
+///
+/// `Bad` with `MissingField` where it has no such member, with `InvalidFieldType` where the member is no list.
+#[tactic(auto, unfolding(crate::specs::Asks::required_items))]
+pub fn required_items<'t>(alloc: Global, ask: &'t Tree, field: &str) -> Result<&'t [Tree], AskFault>
+    ensures ok { IfOk result (λ items. required_items field.now (data_of ask.now) ≡ Ok (items_data items.now)) }
+    ensures err { IfErr result (λ fault. fault ≢ AskFault.Memory
+        → required_items field.now (data_of ask.now) ≡ Err fault) }
+{
+    match ask.member(field) {
+        Some(value) => items_in(alloc, field, value),
+        None => Err(AskFault::missing(alloc, field)?),
+    }
+}
+
+/// The items of the list that an ask may have in a field, none where it has no such member.
+///
+/// # Errors
+///
+/// `Bad` with `InvalidFieldType` where it has such a member, and that is no list.
+#[tactic(auto, unfolding(crate::specs::Asks::optional_items))]
+pub fn optional_items<'t>(alloc: Global, ask: &'t Tree, field: &str) -> Result<&'t [Tree], AskFault>
+    ensures ok { IfOk result (λ items. optional_items field.now (data_of ask.now) ≡ Ok (items_data items.now)) }
+    ensures err { IfErr result (λ fault. fault ≢ AskFault.Memory
+        → optional_items field.now (data_of ask.now) ≡ Err fault) }
+{
+    match ask.member(field) {
+        Some(value) => items_in(alloc, field, value),
+        None => Ok(&[]),
+    }
+}
+
+fn items_in<'t>(alloc: Global, field: &str, value: &'t Tree) -> Result<&'t [Tree], AskFault>
+    ensures ok { IfOk result (λ items. items_in field.now (as_array (data_of value.now)) ≡ Ok (items_data items.now)) }
+    ensures err { IfErr result (λ fault. fault ≢ AskFault.Memory
+        → items_in field.now (as_array (data_of value.now)) ≡ Err fault) }
+{
+    match value.as_list() {
+        Some(items) => Ok(items),
+        None => Err(AskFault::wrong_type(alloc, field)?),
+    }
+}
+
+/// The texts that the items of a field's list are. Linear in the list.
+///
+/// # Errors
+///
+/// `Bad` with `InvalidFieldType` where an item is no text.
+pub fn texts_of<'t>(alloc: Global, field: &str, items: &'t [Tree]) -> Result<Vec<&'t str>, AskFault>
+    ensures ok { IfOk result (λ texts. texts_of field.now (items_data items.now)
+        ≡ Ok (map (λ text. text.now) texts.items)) }
+    ensures err { IfErr result (λ fault. fault ≢ AskFault.Memory
+        → texts_of field.now (items_data items.now) ≡ Err fault) }
+{
+    let mut texts = Vec::with_capacity(alloc, items.len())?;
+    for item in items {
+        texts.push(text_in(alloc, field, item)?)?;
+    }
+    Ok(texts)
 }

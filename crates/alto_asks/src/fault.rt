@@ -2,7 +2,7 @@ ghost use Rattle.std.specs.Prelude.{◌≡◌, IfOk};
 ghost use Rattle.alto_asks.specs.Asks.{code_text, no_object, missing, wrong_type, wrong_text};
 
 use json_tree::Name;
-use std::alloc::{AllocError, Global};
+use std::alloc::{AllocError, AllocFailed, Global};
 
 /// What is wrong with the body of an ask (RFC 7285, section 8.5.2).
 #[derive(Clone, Copy, Debug, PartialEq, Eq)]
@@ -53,6 +53,17 @@ impl From<AllocError> for AskFault {
     ghost from_gives = { λ _ fault. fault ≡ Memory };
 
     fn from(_: AllocError) -> AskFault {
+        AskFault::Memory
+    }
+}
+
+impl<T: Drop> From<AllocFailed<T>> for AskFault {
+    ghost use Rattle.std.specs.Prelude.{◌≡◌};
+    ghost use Rattle.alto_asks.specs.declared.fault.AskFault.TheVariants.{Memory};
+
+    ghost from_gives = { λ _ fault. fault ≡ Memory };
+
+    fn from(_: AllocFailed<T>) -> AskFault {
         AskFault::Memory
     }
 }

@@ -3,8 +3,8 @@
 
 mod asks;
 mod fault;
-#[cfg(test)]
-mod tests;
 
-pub use asks::{optional_text, read_ask, required_text};
+pub use asks::{
+    optional_items, optional_text, read_ask, required_items, required_text, text_in, texts_of,
+};
 pub use fault::{AskCode, AskFault};

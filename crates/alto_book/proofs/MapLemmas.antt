@@ -61,6 +61,8 @@ declared_behind book of i j legal low le high declared =
 -- the rows at two numbers differ by the keys between them
 pub numbers_differ : NumbersDifferByKeys
 numbers_differ book of i j legal low le high declared = record {
+  good = good_state book (batches_to book of i) legal;
+  good_behind = good_state book (batches_to book of j) legal;
   epoch = same_epoch book (batches_to book of i) (batches_to book of j) legal;
   same = λ at t none. same_between book of (batches_to book of i) (batches_to book of j) at legal (reached_in_order book of i j first last le) t
       (sym (key_set_has (touching of (writes_in (batches_between book of i j))) at) ∙ none);

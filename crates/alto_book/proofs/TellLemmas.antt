@@ -104,6 +104,9 @@ graph_tells book of legal declared = record {
   leads = λ i j here.
       let edge : LeadsOn (first_kept book of) (version_of (rows_of book) of) i j = leads_on (first_kept book of) (version_of (rows_of book) of) i j here in
       kept_true graph j (omega (arith, edge.onward)) (omega (arith, edge.low, first)) (omega (arith, edge.high, last));
+  begins = λ i j low here.
+      let edge : LeadsOn (first_kept book of) (version_of (rows_of book) of) i j = leads_on (first_kept book of) (version_of (rows_of book) of) i j here in
+      kept_true graph i (omega (arith, low)) (omega (arith, edge.from low, first)) (omega (arith, edge.onward, edge.high, last));
   rows = rows;
   good = λ number. good_state book (batches_to book of number) legal;
   declared = λ number kept.

@@ -14,7 +14,7 @@ use Rattle.alto_rows.specs.Accepted.{Accepted}
 use Rattle.alto_rows.specs.Order.{key_cmp}
 use Rattle.alto_rows.specs.Rows.{Rows}
 use Rattle.alto_rows.specs.Versions.{is_declared, version_of, window_of}
-use Rattle.edge_patch.specs.Differ.{DifferBy}
+use Rattle.net_docs.specs.Differ.{DifferBy}
 use Rattle.tips_graph.proofs.KeySetLemmas.{key_set-same}
 use Rattle.tips_graph.specs.Edges as edges
 use Rattle.tips_graph.specs.Keys.{key_set}
@@ -29,7 +29,7 @@ use Rattle.alto_book.proofs.GivenLemmas.{touching-append}
 use Rattle.alto_book.proofs.MapLemmas.{same_between, same_epoch, none_written_between}
 use Rattle.alto_book.proofs.NumberLemmas.{version_of-later}
 use Rattle.alto_book.proofs.PlaceLemmas.{HasPlace, IsReached, apart, batches_to-base, batches_to-given, place_now, position-given, reached, reached_in_order, version_of-given}
-use Rattle.alto_book.proofs.StateLemmas.{state_at-all}
+use Rattle.alto_book.proofs.StateLemmas.{good_state, state_at-all}
 use Rattle.alto_book.proofs.TellLemmas.{here_lower}
 use Rattle.alto_book.proofs.TrimLemmas.{state_at-trimmed, rows_of-trimmed, slice_get-drop}
 
@@ -276,6 +276,8 @@ trim_keeps_numbers book n of legal le declared = record {
         → DifferBy [] (rows_at book of number) (rows_at (trimmed book n) of number) of
     base_differs number shown it =
         rw (state_at-trimmed book n (batches_to (trimmed book n) of number)) record {
+          good = good_state book (batches_to book of number) legal;
+          good_behind = good_state book (moved book of n number) legal;
           epoch = same_epoch book (batches_to book of number) (moved book of n number) legal;
           same = λ at t none. same_between book of (batches_to book of number) (moved book of n number) at legal it.behind t (it.none at);
           before = it.declared (batches_to book of number) (omega arith) it.before.within;

@@ -6,9 +6,11 @@ use Rattle.serde_json.specs.Data.{Data}
 use Rattle.alto_rows.specs.declared.resource.Resource.{Resource}
 use Rattle.alto_rows.specs.Rows.{Rows}
 use Rattle.alto_rows.specs.Versions.{version_of}
-use Rattle.edge_patch.specs.Differ.{DifferBy}
-use Rattle.edge_patch.specs.Documents.{document, has_document}
-use Rattle.edge_patch.specs.Merge.{merge_form}
+use Rattle.net_docs.specs.Differ.{DifferBy}
+use Rattle.edge_patch.specs.Documents.{has_document}
+use Rattle.edge_patch.specs.Documents as documents
+use Rattle.edge_patch.specs.declared.form.PatchForm.{PatchForm}
+use Rattle.edge_patch.specs.declared.form.PatchForm.TheVariants as form
 use Rattle.alto_book.specs.Book.{Book, rows_of}
 use Rattle.alto_book.specs.Legal.{IsLegal}
 use Rattle.alto_book.specs.NumberLaws.{AreNumbers}
@@ -19,8 +21,11 @@ use Rattle.alto_book.proofs.PushLemmas.{between}
 use Rattle.alto_book.proofs.StayLemmas.{rows_at_stay, keys_between_stay}
 use Rattle.alto_book.proofs.TellLemmas.{LeadsOn, leads_on}
 use Rattle.alto_book.specs.WalkLaws.{BodiesStay, WalksLeadOn}
-use Rattle.alto_book.specs.Walks.{document_at, edge_body, Edge, held_after, followed, IsAnswered, IsWalk}
-use Rattle.edge_patch.proofs.StepLemmas.{step_leads_on}
+use Rattle.alto_book.specs.Walks.{document_at, document, edge_content, Edge, held_after, followed, IsAnswered, IsWalk, patch}
+use Rattle.edge_patch.proofs.StepLemmas.{step_leads_on, step_operates}
+use Rattle.json_patch.specs.Operations.{and_then}
+use Rattle.std.specs.Prelude.{Ok}
+use Rattle.alto_rows.specs.declared.key.Key.{Key}
 
 from_a_number : (i : ℕ) → (i == 0) ≡ false → 1 ≤ i
 from_a_number i not_zero = grind (arith, nat_tests)
@@ -48,21 +53,19 @@ stays book of edge legal a = record {
     leads : LeadsOn (first_kept a.look of) (version_of (rows_of a.look) of) edge.i edge.j
     leads = leads_on (first_kept a.look of) (version_of (rows_of a.look) of) edge.i edge.j a.here
 
--- ---- bodies
+-- ---- what edges hold
 
 pub bodies_stay : BodiesStay
-bodies_stay book of edge legal a = a.body ∙ by (edge.i == 0) refl
+bodies_stay book of edge legal a = a.content ∙ by (edge.i == 0) refl
   where
     it : Stays book of edge a.look
     it = stays book of edge legal a
 
-    by : (b : Bool) → (edge.i == 0) ≡ b → edge_body a.look of edge.i edge.j ≡ edge_body book of edge.i edge.j
-    by true e = rw e (ap (document of) (sym it.rows))
+    by : (b : Bool) → (edge.i == 0) ≡ b → edge_content a.look of edge.form edge.i edge.j ≡ edge_content book of edge.form edge.i edge.j
+    by true e = rw e (ap (λ (rows : Rows). document (documents.document of rows)) (sym it.rows))
     by false e =
         let some : 1 ≤ edge.i = from_a_number edge.i e in
-        rw e
-        (ap (λ (rows : Rows). merge_form of rows (keys_between a.look of edge.i edge.j)) (sym it.rows)
-        ∙ ap (merge_form of (rows_at book of edge.j)) (sym (it.keys some)))
+        rw e (λ n. patch edge.form of (sym (it.before some) n) (sym it.rows n) (sym (it.keys some) n))
 
 -- ---- walks
 
@@ -83,30 +86,35 @@ edge_differs book of edge legal a some = rw (it.keys some, it.before some, it.ro
         numbers_differ a.look of edge.i edge.j numbers.legal (omega (arith, numbers.from)) numbers.rise numbers.upto
         (all.declared (batches_to a.look of edge.i) (omega arith) all.first.within)
 
+-- a patch between rows that differ at its keys leads from document to document, in either form
+patch_leads_on : (form : PatchForm) (of : Resource) (before later : Rows) (keys : List Key) → has_document of ≡ true → DifferBy keys before later of
+    → held_after (documents.document of before) (patch form of before later keys) ≡ Ok (documents.document of later)
+patch_leads_on form.Merge of before later keys has differ = ap (λ (d : Data). Ok d) (step_leads_on of before later keys has differ)
+patch_leads_on form.Operations of before later keys has differ = step_operates of before later keys has differ
+
 -- one edge leads a client that holds the document at its beginning to the document at its end
 edge_leads_on : (book : Book) (of : Resource) (edge : Edge) (held : Data) → IsLegal book → has_document of ≡ true → IsAnswered book of edge
-    → (1 ≤ edge.i → held ≡ document_at book of edge.i) → held_after held edge ≡ document_at book of edge.j
-edge_leads_on book of edge held legal has a start = by (edge.i == 0) refl
+    → (1 ≤ edge.i → held ≡ document_at book of edge.i) → held_after held edge.content ≡ Ok (document_at book of edge.j)
+edge_leads_on book of edge held legal has a start = ap (held_after held) (bodies_stay book of edge legal a) ∙ by (edge.i == 0) refl
   where
-    body : edge.body ≡ edge_body book of edge.i edge.j
-    body = bodies_stay book of edge legal a
-
-    by : (b : Bool) → (edge.i == 0) ≡ b → held_after held edge ≡ document_at book of edge.j
-    by true e = rw e (body ∙ rw e refl)
+    by : (b : Bool) → (edge.i == 0) ≡ b → held_after held (edge_content book of edge.form edge.i edge.j) ≡ Ok (document_at book of edge.j)
+    by true e = rw e refl
     by false e =
         let some : 1 ≤ edge.i = from_a_number edge.i e in
-        rw (e, body, start some)
-        (rw e (step_leads_on of (rows_at book of edge.i) (rows_at book of edge.j) (keys_between book of edge.i edge.j) has (edge_differs book of edge legal a some)))
+        rw (e, start some)
+        (patch_leads_on edge.form of (rows_at book of edge.i) (rows_at book of edge.j) (keys_between book of edge.i edge.j) has (edge_differs book of edge legal a some))
 
 -- edges in turn
 edges_lead_on : (book : Book) (of : Resource) (from at : ℕ) (edges : List Edge) (held : Data) → IsLegal book → has_document of ≡ true
-    → IsWalk book of from edges at → held ≡ document_at book of from → followed held edges ≡ document_at book of at
-edges_lead_on book of from at [] held legal has walk same = same ∙ ap (document_at book of) walk
+    → IsWalk book of from edges at → held ≡ document_at book of from → followed held edges ≡ Ok (document_at book of at)
+edges_lead_on book of from at [] held legal has walk same = ap (λ (d : Data). Ok d) (same ∙ ap (document_at book of) walk)
 edges_lead_on book of from at (edge ∷ edges) held legal has walk same =
-    edges_lead_on book of edge.j at edges (held_after held edge) legal has walk.2
+    ap (and_then (λ next. followed next edges))
     (edge_leads_on book of edge held legal has walk.1 (λ some. same ∙ ap (document_at book of) (sym walk.0)))
+    ∙ edges_lead_on book of edge.j at edges (document_at book of edge.j) legal has walk.2 refl
 
 pub walks_lead_on : WalksLeadOn
 walks_lead_on book of from at first edges held legal has walk start =
-    edges_lead_on book of first.j at edges (held_after held first) legal has walk.2
+    ap (and_then (λ next. followed next edges))
     (edge_leads_on book of first held legal has walk.1 (λ some. start (rw (← walk.0) some) ∙ ap (document_at book of) (sym walk.0)))
+    ∙ edges_lead_on book of first.j at edges (document_at book of first.j) legal has walk.2 refl

@@ -10,7 +10,7 @@ use Rattle.alto_rows.specs.Rows.{has_row}
 use Rattle.alto_rows.specs.Versions.{is_declared, version_of}
 use Rattle.alto_edits.specs.Versions.{is_written}
 use Rattle.net_docs.specs.NetworkMap.{network_map}
-use Rattle.edge_patch.specs.Differ.{DifferBy}
+use Rattle.net_docs.specs.Differ.{DifferBy}
 use Rattle.tips_graph.specs.declared.status.EdgeStatus.TheVariants.{Here}
 use Rattle.tips_graph.specs.Edges.{recommended_edge}
 use Rattle.tips_graph.specs.Graph.{GraphData, first_of, last_of, keeps, span_of, status_of}
@@ -163,6 +163,7 @@ pub record TellsNumbers (graph : GraphData) (book : Book) (of : Resource) : Type
   pub recommended : (held : Option ℕ)
       → recommended_edge (first_of graph) (last_of graph) held ≡ recommended book of held
   pub leads : (i j : ℕ) → status_at book of i j ≡ Here → keeps graph j ≡ true
+  pub begins : (i j : ℕ) → 1 ≤ i → status_at book of i j ≡ Here → keeps graph i ≡ true
   pub rows : (number : ℕ) → keeps graph number ≡ true → graph_rows graph number ≡ Some (rows_at book of number)
   pub good : (number : ℕ) → AreGood (rows_at book of number)
   pub declared : (number : ℕ) → keeps graph number ≡ true → is_declared (rows_at book of number) of ≡ true

@@ -1,4 +1,2 @@
-pub mod MergeLemmas
 pub mod LawLemmas
-pub mod GroupLemmas
 pub mod StepLemmas

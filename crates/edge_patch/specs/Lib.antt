@@ -1,4 +1,4 @@
 pub mod Documents
 pub mod Merge
-pub mod Differ
+pub mod OperationForm
 pub mod Laws

@@ -1,24 +1,20 @@
-//! What holds of every merge form. Each law is the contract of a function that does nothing.
+//! What holds of both forms of an edge. Each law is the contract of a function that does nothing.
 
-ghost use Rattle.edge_patch.specs.Laws.{OnlyTouchingKeysCount, UntouchedIsEmpty, GroupsInOrder, StepsLeadOn};
+ghost use Rattle.edge_patch.specs.Laws.{OnlyTouchingKeysCount, UntouchedIsEmpty, StepsLeadOn, OperationsLeadOn};
 
-/// A merge form is that over those of its keys that touch the resource.
+/// Both forms are those over those of their keys that touch the resource.
 pub fn only_touching_keys_count()
     ensures { OnlyTouchingKeysCount }
 {}
 
-/// A merge form over keys that don't touch the resource changes nothing.
+/// Over keys that don't touch the resource, both forms change nothing.
 pub fn untouched_is_empty()
     ensures { UntouchedIsEmpty }
 {}
 
-/// Distinct keys in their order touch distinct groups in the byte order of their names.
-pub fn groups_in_order()
-    ensures { GroupsInOrder }
-{}
-
-/// A merge form leads from the document before to the document after, whatever the keys between them are: groups that came, that
-/// went, and a new tag.
+/// Both forms lead from the document before to the document after, whatever the keys between them are: groups and members that
+/// came, that went, that changed, and a new tag.
 pub fn steps_lead_on()
-    ensures { StepsLeadOn }
+    ensures merged { StepsLeadOn }
+    ensures operated { OperationsLeadOn }
 {}

@@ -1,2 +1,10 @@
+pub mod SpanLemmas
+pub mod GroupLemmas
 pub mod PidLemmas
+pub mod MergedLemmas
+pub mod ListedLemmas
 pub mod KeysLemmas
+pub mod StandsLemmas
+pub mod PlaceLemmas
+pub mod SourceLemmas
+pub mod FilterLemmas

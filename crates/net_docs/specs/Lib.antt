@@ -1,2 +1,6 @@
 pub mod NetworkMap
+pub mod Prefixes
+pub mod Differ
 pub mod Laws
+pub mod Ask
+pub mod Filter

@@ -6,44 +6,31 @@ ghost use Rattle.json_tree.specs.Document.{object_of};
 ghost use Rattle.json_tree.specs.Tree.{data_of};
 ghost use Rattle.net_docs.specs.NetworkMap as spec;
 
-use crate::pids::groups;
+use crate::source::NetMap;
 use crate::version::tag;
+use alto_maps::snapshot;
 use alto_names::NetName;
 use alto_rows::{Resource, RowStore};
 use json_tree::{Members, Tree};
 use std::alloc::{AllocError, Global};
 
-/// The network map of a declared network (RFC 7285, section 11.2.1.6). Costs three searches and one walk over the rows
-/// of the network's PIDs.
-#[tactic(auto, unfolding(crate::specs::NetworkMap::network_map))]
+/// The network map of a declared network (RFC 7285, section 11.2.1.6). Costs two searches for the tag, one walk over the rows of
+/// the network's PIDs, and one over those of their prefixes.
 pub fn net_doc<R: RowStore>(alloc: Global, rows: &R, net: &NetName) -> Result<Tree, AllocError>
     requires good { AreGood (R.rows rows.now) }
     requires declared { has_row (R.rows rows.now) (key.Net net.now) ≡ true }
     ensures { IfOk result (λ tree. data_of tree ≡ spec.network_map (R.rows rows.now) net.now) }
 {
-    let meta = meta_of(alloc, version_tag(alloc, rows, net)?)?;
-    let groups = groups(alloc, rows, net)?;
-    document_of(alloc, meta, groups)
+    snapshot(alloc, &NetMap::new(rows, net))
 }
 
 /// The `meta` member of a network map.
-fn meta_of(alloc: Global, version_tag: Tree) -> Result<Tree, AllocError>
+pub(crate) fn meta_of(alloc: Global, version_tag: Tree) -> Result<Tree, AllocError>
     ensures { IfOk result (λ tree. data_of tree ≡ object_of ((codes "vtag", data_of version_tag) ∷ [])) }
 {
     let mut meta = Members::new(alloc);
     meta.put(alloc, "vtag", version_tag)?;
     Ok(meta.into_tree())
-}
-
-/// The document with these two members.
-fn document_of(alloc: Global, meta: Tree, groups: Tree) -> Result<Tree, AllocError>
-    ensures { IfOk result (λ tree. data_of tree
-        ≡ object_of ((codes "meta", data_of meta) ∷ (codes "network-map", data_of groups) ∷ [])) }
-{
-    let mut document = Members::new(alloc);
-    document.put(alloc, "meta", meta)?;
-    document.put(alloc, "network-map", groups)?;
-    Ok(document.into_tree())
 }
 
 /// The version tag of a network's map (RFC 7285, section 10.3), by which the map's dependents name it too. Two searches.

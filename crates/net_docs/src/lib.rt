@@ -1,15 +1,26 @@
-//! Network maps (RFC 7285, section 11.2.1): the PIDs of a network, under the version tag of the rows that they are read from.
+//! Network maps (RFC 7285, section 11.2.1): the PIDs of a network with their prefixes, under the version tag of the rows that
+//! they are read from.
 //!
 //! ```text
-//! {"meta":{"vtag":{"resource-id":"metro","tag":"e1-2"}},"network-map":{"east":{}}}
+//! {"meta":{"vtag":{"resource-id":"metro","tag":"e1-3"}},
+//!  "network-map":{"east":{"ipv4":["192.0.2.0/24"],"ipv6":["2001:db8::/32"]},"west":{}}}
 //! ```
 #![tactic(auto)]
 
+mod ask;
 mod document;
+mod filter;
 mod laws;
 mod pids;
+mod places;
+mod prefixes;
+mod source;
 mod version;
 
+pub use ask::{Family, NetAsk, Pick, PidNames, read_net_ask};
 pub use document::{net_doc, version_tag};
-pub use laws::map_is_of_its_keys;
+pub use filter::filter_net;
+pub use laws::{map_is_of_its_keys, maps_differ_at_places};
+pub use places::net_places;
+pub use source::NetMap;
 pub use version::{epoch, tag};

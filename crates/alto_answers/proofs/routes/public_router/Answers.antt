@@ -14,5 +14,9 @@ pub add-requires-3 : goal.add-requires-3
 unfolding matchit_on_literals
 add-requires-3 c = rw (c.in_ok-add-2.ensures, c.in_ok-add.ensures, c.new-router.ensures) (search rules)
 
+pub add-requires-4 : goal.add-requires-4
+unfolding matchit_on_literals
+add-requires-4 c = rw (c.in_ok-add-3.ensures, c.in_ok-add-2.ensures, c.in_ok-add.ensures, c.new-router.ensures) (search rules)
+
 pub returns : goal.returns
-returns c = rw (c.in_ok-add-2.ensures, c.in_ok-add.ensures, c.new-router.ensures) at c.in_ok-add-3.ensures
+returns c = rw (c.in_ok-add-3.ensures, c.in_ok-add-2.ensures, c.in_ok-add.ensures, c.new-router.ensures) at c.in_ok-add-4.ensures
