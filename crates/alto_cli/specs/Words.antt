@@ -3,7 +3,7 @@ use Rattle.std.specs.Prelude.{ℕ, Bool, nat_le, ◌&&◌, List, [], ◌∷◌, 
 use Rattle.std.specs.Str.Parse.{digits_value}
 use Rattle.alto_http.specs.Fields.{is_decimal}
 
--- how often a connection waits for an awaited edge, where nothing else is said
+-- how often a connection waits for the next edge, where nothing else is said
 abbrev pub usual_turns : ℕ
 usual_turns = 30
 

@@ -10,7 +10,7 @@ const PIPE: &str = "pipe";
 /// The word before the number of turns.
 const TURNS: &str = "--turns";
 
-/// How often a connection waits for an awaited edge, where no word says it.
+/// How often a connection waits for the next edge, where no word says it.
 const USUAL_TURNS: u32 = 30;
 
 /// The most turns that a word may say.

@@ -9,9 +9,9 @@ use crate::grammar::turns_of;
 use alto_desk::Desk;
 use alto_http::{Link, write_all};
 use alto_names::{Epoch, NameFault};
-use alto_rows::PlainRows;
 use alto_serve::{Clock, End, Side, Solo, serve_conn};
 use json_tree::Name;
+use row_chunks::Chunks;
 use std::alloc::{AllocError, Global};
 
 /// What the program prints where its words are outside the grammar.
@@ -23,20 +23,21 @@ const EPOCH: &[u8] = b"e1";
 const WINDOW: u32 = 8;
 
 /// Runs the program on its words, and gives the status that it ends with: 0 where the console's input ended between
-/// requests or a request closed, 1 for want of memory, 2 for words outside the grammar, 4 and 5 where a read or a write
+/// requests or a request closed, 1 out of memory, 2 for words outside the grammar, 4 and 5 where a read or a write
 /// of the console failed, 14 where the input ended inside a request, 15 where the console brought as many requests as a
 /// connection may.
 ///
-/// The words are `pipe STORE` or `pipe STORE --turns T`, T being 1 to 10 decimal digits that make 1,000 at most: how often
-/// an awaited edge is waited for, 30 unless given. STORE is read and not used yet: the book starts in memory, and ends
-/// with the run.
+/// The words are `pipe STORE` or `pipe STORE --turns T`, T being 1 to 10 decimal digits that make 1,000 at most: how
+/// often the next edge is waited for, 30 unless given. STORE is read and not used yet: the book starts in memory,
+/// and ends with the run.
 pub fn run<L: Link, C: Clock>(alloc: Global, words: &[Name], console: &mut L, clock: &C) -> u8
     ensures faulty { result ≡ 2 → turns_of words.now ≡ None }
     ensures said { turns_of words.now ≡ None → Writes (SaysWords result) (L.out console.old) (L.out console.new) }
 
-    // Where the console tells its bytes, the status and the output are those of serving it from a new book.
-    ensures served { IfSome (turns_of words.now) (λ turns. IfSome (L.left console.old) (λ bytes. Writes
-        (Pipes result (C.tells clock.now) turns bytes (L.left console.new)) (L.out console.old) (L.out console.new))) }
+    // Where the console tells its bytes, the status and the output are those of serving it from a new book, and each
+    // walk along the edges that were answered reaches the document.
+    ensures served { IfSome (turns_of words.now) (λ turns. Pipes result (C.tells clock.now) turns
+        (L.left console.old) (L.out console.old) (L.left console.new) (L.out console.new)) }
 
     ensures reads { L.failed_reads console.new ≡ reads_at result (L.failed_reads console.old) }
     ensures writes { L.failed_writes console.new ≡ writes_at result (L.failed_writes console.old) }
@@ -62,8 +63,8 @@ fn print_words_fault<L: Link>(console: &mut L) -> u8
 /// Serves the console over a book in memory.
 fn pipe<L: Link, C: Clock>(alloc: Global, console: &mut L, clock: &C, turns: u32) -> u8
     ensures status { result ≢ 2 }
-    ensures served { IfSome (L.left console.old) (λ bytes. Writes
-        (Pipes result (C.tells clock.now) turns bytes (L.left console.new)) (L.out console.old) (L.out console.new)) }
+    ensures served { Pipes result (C.tells clock.now) turns
+        (L.left console.old) (L.out console.old) (L.left console.new) (L.out console.new) }
     ensures reads { L.failed_reads console.new ≡ reads_at result (L.failed_reads console.old) }
     ensures writes { L.failed_writes console.new ≡ writes_at result (L.failed_writes console.old) }
 {
@@ -75,7 +76,7 @@ fn pipe<L: Link, C: Clock>(alloc: Global, console: &mut L, clock: &C, turns: u32
 }
 
 /// A new book in memory.
-fn new_desk(alloc: Global) -> Result<Desk<PlainRows>, AllocError>
+fn new_desk(alloc: Global) -> Result<Desk<Chunks>, AllocError>
     ensures { IfOk result (λ desk. desk ≡ opening_book (codes "e1") 8) }
 {
     match Epoch::read(alloc, EPOCH) {

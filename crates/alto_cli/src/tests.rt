@@ -1,3 +1,5 @@
+mod imports;
+
 use crate::run::run;
 use alto_answers::{Place, Routes, Side};
 use alto_book::EditFault;
@@ -63,8 +65,31 @@ PUT /maps/metro | | | 405 Method Not Allowed | json~Allow: GET | {"status":405}
 GET /tips | | | 405 Method Not Allowed | json~Allow: POST | {"status":405}
 GET /map/metro | | | 404 Not Found | json | {"status":404,"why":"route"}
 POST /edits/i4 | Content-Type: text/csv~ | prefix-put,metro,east,192.0.2.0/24,,~ | 200 OK | json | {"moment":100,"n":4}
-GET /tips/metro/ug/3/4 | | | 200 OK | merge-patch+json | {"meta":{"vtag":{"tag":"e1-4"}}}
-GET /tips/metro/ug/2/4 | | | 200 OK | merge-patch+json | {"meta":{"vtag":{"tag":"e1-4"}},"network-map":{"west":{}}}
+GET /maps/metro | | | 200 OK | alto-networkmap+json | {"meta":{"vtag":{"resource-id":"metro","tag":"e1-4"}},"network-map":{"east":{"ipv4":["192.0.2.0/24"]},"west":{}}}
+GET /tips/metro/ug/3/4 | | | 200 OK | merge-patch+json | {"meta":{"vtag":{"tag":"e1-4"}},"network-map":{"east":{"ipv4":["192.0.2.0/24"]}}}
+GET /tips/metro/ug/2/4 | | | 200 OK | merge-patch+json | {"meta":{"vtag":{"tag":"e1-4"}},"network-map":{"east":{"ipv4":["192.0.2.0/24"]},"west":{}}}
+GET /tips/metro/ug/3/4 | Accept: application/json-patch+json~ | | 200 OK | json-patch+json | [{"op":"replace","path":"/meta/vtag/tag","value":"e1-4"},{"op":"add","path":"/network-map/east/ipv4","value":["192.0.2.0/24"]}]
+GET /tips/metro/ug/2/4 | Accept: text/html, application/json-patch+json;q=0.5~ | | 200 OK | json-patch+json | [{"op":"replace","path":"/meta/vtag/tag","value":"e1-4"},{"op":"add","path":"/network-map/east/ipv4","value":["192.0.2.0/24"]},{"op":"add","path":"/network-map/west","value":{}}]
+GET /tips/metro/ug/3/4 | Accept: application/json-patch+json,application/merge-patch+json;q=0.1~ | | 200 OK | merge-patch+json | {"meta":{"vtag":{"tag":"e1-4"}},"network-map":{"east":{"ipv4":["192.0.2.0/24"]}}}
+GET /tips/metro/ug/3/4 | Accept: application/JSON-Patch+json~ | | 200 OK | merge-patch+json | {"meta":{"vtag":{"tag":"e1-4"}},"network-map":{"east":{"ipv4":["192.0.2.0/24"]}}}
+GET /tips/metro/ug/0/4 | Accept: application/json-patch+json~ | | 200 OK | alto-networkmap+json | {"meta":{"vtag":{"resource-id":"metro","tag":"e1-4"}},"network-map":{"east":{"ipv4":["192.0.2.0/24"]},"west":{}}}
+POST /filter/net/metro | Content-Type: application/alto-networkmapfilter+json~ | {"pids":["east","nowhere"],"address-types":["ipv6"]} | 200 OK | alto-networkmap+json | {"meta":{"vtag":{"resource-id":"metro","tag":"e1-4"}},"network-map":{"east":{}}}
+POST /filter/net/metro | Content-Type: application/alto-networkmapfilter+json~ | {"pids":["west","east","west"],"address-types":["ipv6","ipv4"]} | 200 OK | alto-networkmap+json | {"meta":{"vtag":{"resource-id":"metro","tag":"e1-4"}},"network-map":{"east":{"ipv4":["192.0.2.0/24"]},"west":{}}}
+POST /filter/net/metro | Content-Type: application/alto-networkmapfilter+json~ | {"pids":[],"address-types":[]} | 200 OK | alto-networkmap+json | {"meta":{"vtag":{"resource-id":"metro","tag":"e1-4"}},"network-map":{"east":{"ipv4":["192.0.2.0/24"]},"west":{}}}
+POST /filter/net/metro | Content-Type: application/alto-networkmapfilter+json~ | {"pids":["no pid"]} | 200 OK | alto-networkmap+json | {"meta":{"vtag":{"resource-id":"metro","tag":"e1-4"}},"network-map":{}}
+POST /filter/net/metro | Content-Type: application/alto-networkmapfilter+json~ | {} | 400 Bad Request | alto-error+json | {"meta":{"code":"E_MISSING_FIELD","field":"pids"}}
+POST /filter/net/metro | Content-Type: application/alto-networkmapfilter+json~ | {"address-types":7} | 400 Bad Request | alto-error+json | {"meta":{"code":"E_MISSING_FIELD","field":"pids"}}
+POST /filter/net/metro | Content-Type: application/alto-networkmapfilter+json~ | {"pids":"east"} | 400 Bad Request | alto-error+json | {"meta":{"code":"E_INVALID_FIELD_TYPE","field":"pids"}}
+POST /filter/net/metro | Content-Type: application/alto-networkmapfilter+json~ | {"pids":null,"address-types":7} | 400 Bad Request | alto-error+json | {"meta":{"code":"E_INVALID_FIELD_TYPE","field":"pids"}}
+POST /filter/net/metro | Content-Type: application/alto-networkmapfilter+json~ | {"pids":["east",7],"address-types":["ipv5"]} | 400 Bad Request | alto-error+json | {"meta":{"code":"E_INVALID_FIELD_TYPE","field":"pids"}}
+POST /filter/net/metro | Content-Type: application/alto-networkmapfilter+json~ | {"pids":[],"address-types":"ipv4"} | 400 Bad Request | alto-error+json | {"meta":{"code":"E_INVALID_FIELD_TYPE","field":"address-types"}}
+POST /filter/net/metro | Content-Type: application/alto-networkmapfilter+json~ | {"pids":[],"address-types":["ipv4","ipv5",7]} | 400 Bad Request | alto-error+json | {"meta":{"code":"E_INVALID_FIELD_VALUE","field":"address-types","value":"ipv5"}}
+POST /filter/net/metro | Content-Type: application/alto-networkmapfilter+json~ | {"pids":[],"address-types":["IPv4"]} | 400 Bad Request | alto-error+json | {"meta":{"code":"E_INVALID_FIELD_VALUE","field":"address-types","value":"IPv4"}}
+POST /filter/net/metro | Content-Type: application/alto-networkmapfilter+json~ | [] | 400 Bad Request | alto-error+json | {"meta":{"code":"E_SYNTAX"}}
+POST /filter/net/other | Content-Type: application/alto-networkmapfilter+json~ | {} | 404 Not Found | json | {"status":404,"why":"resource"}
+POST /filter/net/metro:prop | Content-Type: application/alto-networkmapfilter+json~ | {"pids":[]} | 404 Not Found | json | {"status":404,"why":"resource"}
+POST /filter/net/metro | Content-Type: application/json~ | {"pids":[]} | 415 Unsupported Media Type | json | {"status":415}
+GET /filter/net/metro | | | 405 Method Not Allowed | json~Allow: POST | {"status":405}
 POST /edits/i5 | Content-Type: text/csv~ | pid-drop,metro,east,,,~ | 200 OK | json | {"moment":100,"n":5}
 GET /tips/metro/ug/4/5 | | | 200 OK | merge-patch+json | {"meta":{"vtag":{"tag":"e1-5"}},"network-map":{"east":null}}
 POST /edits/i6 | Content-Type: text/csv~ | net-drop,metro,,,,~ | 200 OK | json | {"moment":100,"n":6}
@@ -99,6 +124,8 @@ const PATHS: &str = "/maps/metro | maps | none
 /maps/ | none | none
 /maps/metro/ | none | none
 maps/metro | none | none
+/filter/net/metro | filter | none
+/filter/net/ | none | none
 /edits/i1 | none | edits
 /tips | tips | none
 /tips/ | none | none
@@ -250,6 +277,7 @@ fn word(place: Option<Place>) -> &'static str {
     match place {
         Some(Place::Maps) => "maps",
         Some(Place::Edits) => "edits",
+        Some(Place::FilterNet) => "filter",
         Some(Place::Tips) => "tips",
         Some(Place::Edge) => "edge",
         None => "none",

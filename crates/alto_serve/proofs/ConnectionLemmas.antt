@@ -1,256 +1,229 @@
 -- A connection's requests one after another, and its end.
-use Rattle.std.proofs.Common.{◌≡◌, ◌≢◌, ℕ, ◌+◌, ◌<◌, true, false, List, [], ◌∷◌, ◌++◌, length, Option, Some, None, IfSome, refl, sym, ap, subst, ◌∙◌, inl, inr, length-append, arith}
-use Rattle.alto_book.specs.Book.{Book}
-use Rattle.alto_http.specs.Link.{followed_by}
+use Rattle.std.proofs.Common.{◌≡◌, ◌≢◌, ℕ, suc, ◌+◌, ◌<◌, List, [], ◌∷◌, ◌++◌, length, not, if◌then◌else◌, Option, Some, None, IfSome, refl, sym, ap, subst, ◌∙◌, inl, inr, length-append, append_assoc, append-nil, arith}
+use Rattle.std.proofs.lemmas.Grind.{flat_map-append}
+use Rattle.std.proofs.lemmas.List.{map-append}
+use Rattle.std.proofs.lemmas.List.Elements.{All-append, All-cons, All-nil, filter-append}
+use Rattle.alto_http.specs.Link.{extended, followed_by}
 use Rattle.alto_http.specs.Request.{RequestData}
-use Rattle.alto_http.specs.Splits.{Begins, IsUnfinished, Ending, clean, closed, cut, refused, Ends, Splits}
+use Rattle.alto_http.specs.Splits.{Begins, Ending, cut, Splits}
 use Rattle.alto_http.proofs.Fronts.{begin_needs_no_more}
 use Rattle.alto_serve.specs.declared.end.End.{End}
 use Rattle.alto_serve.specs.declared.end.End.TheVariants as end
-use Rattle.alto_serve.specs.Connections.{AnswersAll, LeadsTo, Serves, ServesAll, IsWithin, Ended, last_words, most_requests}
-use Rattle.alto_serve.specs.Steps.{GoesOn, Finishes, HasServed}
-use Rattle.alto_serve.specs.Told.{Told, Account, Brings, account_after, both, nothing, only_written}
-use Rattle.alto_serve.specs.Turns.{Setting, TakesTurn}
-use Rattle.alto_serve.proofs.ToldLemmas.{account_more, account_none, both_all, both_nothing, nothing_both}
+use Rattle.alto_serve.specs.Connections.{BeginWith, Comes, Ended, IsServed, IsTurn, State, events_of, most_requests, open_ones, requests_of, state, trace_of}
+use Rattle.alto_serve.specs.Events.{Event, Known, bytes_in}
+use Rattle.alto_serve.specs.Steps.{Becomes, Finishes, GoesOn, HasServed}
+use Rattle.alto_serve.specs.Turns.{Setting}
+use Rattle.alto_serve.specs.Walks.{Exchange}
+use Rattle.alto_serve.proofs.EventLemmas.{bytes_append, emits_none, emits_on, emits_so}
 
--- one request more is replied to
-answers_more : (setting : Setting) (before : Book) (requests : List RequestData) (told : Told) (between : Book)
-    (request : RequestData) (last : Told) (after : Book)
-    → AnswersAll setting before requests told between → TakesTurn setting request between last after
-    → AnswersAll setting before (requests ++ request ∷ []) (both told last) after
-answers_more setting before [] told between request last after (none, same) replied =
-    let P : Book → Type 0 = λ book. TakesTurn setting request book last after in
-    (last, after, nothing, subst P same replied, ap (λ t. both t last) none ∙ nothing_both last ∙ sym (both_nothing last), (refl, refl))
-answers_more setting before (first ∷ requests) told between request last after (head, middle, more, replies, whole, rest) replied = (
-  head,
-  middle,
-  both more last,
-  replies,
-  ap (λ t. both t last) whole ∙ sym (both_all head more last),
-  answers_more setting middle requests more between request last after rest replied,
-)
+-- ---- bytes
 
--- and taken from the front of the rest
-leads_more : (bytes : List ℕ) (requests : List RequestData) (rest : List ℕ) (request : RequestData) (behind : List ℕ)
-    → LeadsTo bytes requests rest → Begins rest request behind → request.close ≡ false
-    → LeadsTo bytes (requests ++ request ∷ []) behind
-leads_more bytes [] rest request behind leads begins stays =
-    let P : List ℕ → Type 0 = λ xs. Begins xs request behind in
-    (behind, subst P (sym leads) begins, stays, refl)
-leads_more bytes (first ∷ requests) rest request behind (next, begins_first, stays_first, leads) begins stays =
-    (next, begins_first, stays_first, leads_more next requests rest request behind leads begins stays)
+begin_on : (bytes : List ℕ) (first more : List RequestData) (rest behind : List ℕ) → BeginWith bytes first rest → BeginWith rest more behind
+    → BeginWith bytes (first ++ more) behind
+begin_on bytes [] more rest behind begins on = let P : List ℕ → Type 0 = λ xs. BeginWith xs more behind in subst P (sym begins) on
+begin_on bytes (request ∷ first) more rest behind (next, begins, stays, later) on = (next, begins, stays, begin_on next first more rest behind later on)
 
--- the rest ends, and so do the bytes
-leads_ends : (bytes : List ℕ) (requests : List RequestData) (rest : List ℕ) (ending : Ending)
-    → LeadsTo bytes requests rest → Ends rest ending → Splits bytes requests ending
-leads_ends bytes [] rest ending leads ends = let P : List ℕ → Type 0 = λ xs. Ends xs ending in subst P (sym leads) ends
-leads_ends bytes (first ∷ requests) rest ending (next, begins, stays, leads) ends =
-    (next, begins, inr (stays, leads_ends next requests rest ending leads ends))
-
--- a request closes, and nothing behind it is read
-leads_closes : (bytes : List ℕ) (requests : List RequestData) (rest : List ℕ) (request : RequestData) (behind : List ℕ)
-    → LeadsTo bytes requests rest → Begins rest request behind → request.close ≡ true → Splits bytes (requests ++ request ∷ []) closed
-leads_closes bytes [] rest request behind leads begins closes =
-    let P : List ℕ → Type 0 = λ xs. Begins xs request behind in
-    (behind, subst P (sym leads) begins, inl (closes, refl, refl))
-leads_closes bytes (first ∷ requests) rest request behind (next, begins_first, stays, leads) begins closes =
-    (next, begins_first, inr (stays, leads_closes next requests rest request behind leads begins closes))
+begin_splits : (bytes : List ℕ) (first more : List RequestData) (rest : List ℕ) (ending : Ending) → BeginWith bytes first rest → Splits rest more ending
+    → Splits bytes (first ++ more) ending
+begin_splits bytes [] more rest ending begins splits = let P : List ℕ → Type 0 = λ xs. Splits xs more ending in subst P (sym begins) splits
+begin_splits bytes (request ∷ first) more rest ending (next, begins, stays, later) splits =
+    (next, begins, inr (stays, begin_splits next first more rest ending later splits))
 
 -- the requests stand in the bytes before what is cut off behind them
-leads_front : (bytes : List ℕ) (requests : List RequestData) (given more : List ℕ) → LeadsTo bytes requests (given ++ more)
-    → (front : List ℕ) × (bytes ≡ front ++ more) × LeadsTo front requests given
-leads_front bytes [] given more leads = (given, leads, refl)
-leads_front bytes (first ∷ requests) given more (next, begins, stays, leads) =
-    let later = leads_front next requests given more leads in
+begin_prefix : (bytes : List ℕ) (requests : List RequestData) (given more : List ℕ) → BeginWith bytes requests (given ++ more)
+    → (prefix : List ℕ) × (bytes ≡ prefix ++ more) × BeginWith prefix requests given
+begin_prefix bytes [] given more begins = (given, begins, refl)
+begin_prefix bytes (first ∷ requests) given more (next, begins, stays, rest) =
+    let later = begin_prefix next requests given more rest in
     let P : List ℕ → Type 0 = λ xs. Begins bytes first xs in
     let here = begin_needs_no_more bytes first later.0 more (subst P later.1 begins) in
     (here.0, here.1, (later.0, here.2, stays, later.2))
 
+-- ---- ends
+
+-- an end of the rest is one of the whole
+ended_on : (ended : End) (setting : Setting) (bytes rest : List ℕ) (left : Option (List ℕ)) (first more : List RequestData) (tail : List Event)
+    → ended ≢ end.Limit → BeginWith bytes first rest
+    → Ended ended setting rest left more tail → Ended ended setting bytes left (first ++ more) tail
+ended_on end.Closed setting bytes rest left first more tail never begins (ending, not_cut, splits, words) =
+    (ending, not_cut, begin_splits bytes first more rest ending begins splits, words)
+ended_on end.Cut setting bytes rest left first more tail never begins (splits, words) = (begin_splits bytes first more rest cut begins splits, words)
+ended_on end.Limit setting bytes rest left first more tail never begins came = absurd (never refl)
+ended_on end.ReadFault setting bytes rest None first more tail never begins (given, ending, came, either, splits, words) = cc
+ended_on end.ReadFault setting bytes rest (Some left) first more tail never begins (given, ending, came, either, splits, words) =
+    let is : rest ≡ given ++ left = cc in
+    let P : List ℕ → Type 0 = λ xs. BeginWith bytes first xs in
+    let prefix = begin_prefix bytes first given left (subst P is begins) in
+    (prefix.0, ending, ap Some prefix.1, either, begin_splits prefix.0 first more given ending prefix.2 splits, words)
+ended_on end.WriteFault setting bytes rest left first more tail never begins (behind, events, whole, size, on, next, words) =
+    (behind, events, whole, size, begin_on bytes first more rest behind begins on, next, words)
+ended_on end.Memory setting bytes rest left first more tail never begins (behind, events, on, out, words) =
+    (behind, events, begin_on bytes first more rest behind begins on, out, words)
+
+open_all : (bytes : List ℕ) (requests : List RequestData) (rest : List ℕ) → BeginWith bytes requests rest → open_ones requests ≡ requests
+open_all bytes [] rest begins = refl
+open_all bytes (request ∷ requests) rest (next, begins, stays, later) =
+    ap (λ b. if not b then request ∷ open_ones requests else open_ones requests) stays ∙ ap (λ rs. request ∷ rs) (open_all next requests rest later)
+
+-- ---- an office and a link
+
+writes_on : (out mid later : Option (List ℕ)) (xs ys : List Event) → mid ≡ extended out (bytes_in xs) → later ≡ extended mid (bytes_in ys)
+    → later ≡ extended out (bytes_in (xs ++ ys))
+writes_on None mid later xs ys first second = second ∙ ap (λ o. extended o (bytes_in ys)) first
+writes_on (Some out) mid later xs ys first second =
+    second ∙ ap (λ o. extended o (bytes_in ys)) first ∙ ap Some (append_assoc out (bytes_in xs) (bytes_in ys) ∙ ap (λ bs. out ++ bs) (sym (bytes_append xs ys)))
+
+pub writes_none : (out : Option (List ℕ)) → out ≡ extended out []
+writes_none None = refl
+writes_none (Some out) = ap Some (sym (append-nil out))
+
+comes_on : (setting : Setting) (P Q R : List Event → Type 0) (before mid after : State)
+    → Comes setting P before mid → Comes setting Q mid after → ((xs ys : List Event) → P xs → Q ys → R (xs ++ ys)) → Comes setting R before after
+comes_on setting P Q R before mid after first second both =
+    emits_on setting.alone (λ events. (mid.out ≡ extended before.out (bytes_in events)) × P events)
+    (λ events. (after.out ≡ extended mid.out (bytes_in events)) × Q events) (λ events. (after.out ≡ extended before.out (bytes_in events)) × R events)
+    before.known mid.known after.known first second
+    (λ xs ys p q. (writes_on before.out mid.out after.out xs ys p.0 q.0, both xs ys p.1 q.1))
+
+pub comes_so : (setting : Setting) (P Q : List Event → Type 0) (before after : State)
+    → Comes setting P before after → ((xs : List Event) → P xs → Q xs) → Comes setting Q before after
+comes_so setting P Q before after comes so =
+    emits_so setting.alone (λ events. (after.out ≡ extended before.out (bytes_in events)) × P events)
+    (λ events. (after.out ≡ extended before.out (bytes_in events)) × Q events) before.known after.known comes (λ xs p. (p.0, so xs p.1))
+
+pub comes_none : (setting : Setting) (P : List Event → Type 0) (known : Known) (left left' out out' : Option (List ℕ)) → out' ≡ out → P []
+    → Comes setting P (state known left out) (state known left' out')
+comes_none setting P known left left' out out' same holds =
+    emits_none setting.alone (λ events. (out' ≡ extended out (bytes_in events)) × P events) known (same ∙ writes_none out, holds)
+
+-- ---- exchanges
+
+pub trace_one : (e : Exchange) → trace_of (e ∷ []) ≡ events_of e
+trace_one e = append-nil (events_of e)
+
+trace_on : (first more : List Exchange) → trace_of (first ++ more) ≡ trace_of first ++ trace_of more
+trace_on first more = flat_map-append events_of first more
+
+requests_on : (first more : List Exchange) → requests_of (first ++ more) ≡ requests_of first ++ requests_of more
+requests_on first more = map-append (λ (e : Exchange). e.request) first more
+
+requests_counted : (exchanges : List Exchange) → length (requests_of exchanges) ≡ length exchanges
+requests_counted [] = refl
+requests_counted (e ∷ exchanges) = ap suc (requests_counted exchanges)
+
 -- ---- going on
 
--- at first no request was answered
-pub served_none : (setting : Setting) (given : Option (List ℕ)) (first : Account) (ahead : List ℕ) (before : Book) → ahead ≡ []
-    → IfSome given (λ bytes. HasServed setting bytes before 0 (followed_by ahead given) first first before)
-served_none setting None first ahead before none = tt
-served_none setting (Some bytes) first ahead before none = record {
-  rest = bytes;
-  told = nothing;
-  leaves = ap (λ xs. Some (xs ++ bytes)) none;
-  counted = account_none first;
-  serves = record { requests = []; counted = refl; leads = refl; answered = (refl, refl) };
-}
+-- at first no request had its turn
+pub served_none : (setting : Setting) (known : Known) (left out : Option (List ℕ)) (ahead : List ℕ) → ahead ≡ []
+    → Becomes setting (λ bytes. HasServed setting bytes 0) (state known left out) (state known (followed_by ahead left) out)
+served_none setting known None out ahead none = tt
+served_none setting known (Some bytes) out ahead none =
+    comes_none setting (HasServed setting bytes 0 (state known (Some (ahead ++ bytes)) out)) known (Some bytes) (Some (ahead ++ bytes)) out out refl
+    (record { exchanges = []; rest = bytes; leaves = ap (λ xs. Some (xs ++ bytes)) none; counted = refl; begins = refl; turns = All-nil _; whole = refl })
 
-more_now : (setting : Setting) (bytes : List ℕ) (before : Book) (count : ℕ) (left left' : Option (List ℕ)) (first mid later : Account) (between after : Book)
-    → HasServed setting bytes before count left first mid between
-    → IfSome left (λ rest. Brings (λ told. GoesOn setting rest left' between told after) mid later)
-    → HasServed setting bytes before (count + 1) left' first later after
-more_now setting bytes before count left left' first mid later between after served next =
-    let step = rw served.leaves at next in
-    let goes = step.2 in
+and_one : (setting : Setting) (bytes : List ℕ) (count : ℕ) (mid after : State) (xs ys : List Event) → (served : HasServed setting bytes count mid xs)
+    → GoesOn setting served.rest after ys → HasServed setting bytes (count + 1) after (xs ++ ys)
+and_one setting bytes count mid after xs ys served (request, behind, begins, stays, leaves, (turn, reply, takes, is)) =
+    let e : Exchange = record { request = request; events = turn; reply = reply } in
+    let B : List RequestData → Type 0 = λ rs. BeginWith bytes rs behind in
     record {
-      rest = goes.behind;
-      told = both served.told step.0;
-      leaves = goes.leaves;
-      counted = step.1 ∙ ap (λ a. account_after a step.0) served.counted ∙ account_more first served.told step.0;
-      serves = record {
-        requests = served.serves.requests ++ goes.request ∷ [];
-        counted = length-append served.serves.requests (goes.request ∷ []) ∙ ap (λ n. n + 1) served.serves.counted;
-        leads = leads_more bytes served.serves.requests served.rest goes.request goes.behind served.serves.leads goes.begins goes.stays;
-        answered = answers_more setting before served.serves.requests served.told between goes.request step.0 after served.serves.answered goes.replied;
-      };
+      exchanges = served.exchanges ++ e ∷ [];
+      rest = behind;
+      leaves = leaves;
+      counted = length-append served.exchanges (e ∷ []) ∙ ap (λ n. n + 1) served.counted;
+      begins = subst B (sym (requests_on served.exchanges (e ∷ [])))
+          (begin_on bytes (requests_of served.exchanges) (request ∷ []) served.rest behind served.begins (behind, begins, stays, refl));
+      turns = All-append (IsTurn setting) served.exchanges (e ∷ []) served.turns (All-cons (IsTurn setting) e [] takes (All-nil (IsTurn setting)));
+      whole = rw (served.whole, is) (sym (trace_on served.exchanges (e ∷ []) ∙ ap (λ t. trace_of served.exchanges ++ t) (trace_one e)));
     }
 
--- then one more
-pub served_more : (setting : Setting) (given : Option (List ℕ)) (before : Book) (count : ℕ) (left left' : Option (List ℕ)) (first mid later : Account) (between after : Book)
-    → IfSome given (λ bytes. HasServed setting bytes before count left first mid between)
-    → IfSome left (λ rest. Brings (λ told. GoesOn setting rest left' between told after) mid later)
-    → IfSome given (λ bytes. HasServed setting bytes before (count + 1) left' first later after)
-served_more setting None before count left left' first mid later between after served next = tt
-served_more setting (Some bytes) before count left left' first mid later between after served next =
-    more_now setting bytes before count left left' first mid later between after served next
+-- what became of the bytes, and then of the rest
+then_on : (setting : Setting) (bytes : List ℕ) (count : ℕ) (Q : List ℕ → State → List Event → Type 0) (R : State → List Event → Type 0)
+    (before mid after : State)
+    → Comes setting (HasServed setting bytes count mid) before mid → Becomes setting Q mid after
+    → ((xs ys : List Event) → (served : HasServed setting bytes count mid xs) → Q served.rest after ys → R after (xs ++ ys))
+    → Comes setting (R after) before after
+then_on setting bytes count Q R before mid after (xs, may, is, (out, served)) next both =
+    let step : Comes setting (Q served.rest after) mid after = (rw served.leaves at next) in
+    comes_on setting (λ events. events ≡ xs) (Q served.rest after) (R after) before mid after (xs, may, is, (out, refl)) step
+    (λ zs ys same q. let P : List Event → Type 0 = λ zs. R after (zs ++ ys) in subst P (sym same) (both xs ys served q))
+
+-- one request more had its turn
+pub served_more : (setting : Setting) (count : ℕ) (before mid after : State) → Becomes setting (λ bytes. HasServed setting bytes count) before mid
+    → Becomes setting (GoesOn setting) mid after → Becomes setting (λ bytes. HasServed setting bytes (count + 1)) before after
+served_more setting count before mid after served next = by before.left served
+  where
+    by : (given : Option (List ℕ)) → IfSome given (λ bytes. Comes setting (HasServed setting bytes count mid) before mid)
+        → IfSome given (λ bytes. Comes setting (HasServed setting bytes (count + 1) after) before after)
+    by None h = tt
+    by (Some bytes) h =
+        then_on setting bytes count (GoesOn setting) (HasServed setting bytes (count + 1)) before mid after h next
+        (λ xs ys. and_one setting bytes count mid after xs ys)
 
 -- ---- ending
 
-within_all : (ending : Ending) (n : ℕ) → n < most_requests → IsWithin ending n
-within_all clean n lt = lt
-within_all closed n lt = omega arith
-within_all cut n lt = lt
-within_all (refused fault) n lt = lt
-
-ends_all : (setting : Setting) (bytes : List ℕ) (before : Book) (count : ℕ) (rest : List ℕ) (replies told : Told) (between after : Book) (ending : Ending)
-    → Serves setting bytes before count rest replies between → count < most_requests → Ends rest ending
-    → told ≡ only_written (last_words ending) → after ≡ between → ServesAll setting bytes ending before (both replies told) after
-ends_all setting bytes before count rest replies told between after ending serves few ends words same = record {
-  requests = serves.requests;
-  replies = replies;
-  splits = leads_ends bytes serves.requests rest ending serves.leads ends;
-  within = within_all ending (length serves.requests) (omega (arith, serves.counted));
-  answered = let P : Book → Type 0 = λ book. AnswersAll setting before serves.requests replies book in subst P (sym same) serves.answered;
-  ends = ap (λ t. both replies t) words;
-}
-
-closes_all : (setting : Setting) (bytes : List ℕ) (before : Book) (count : ℕ) (rest : List ℕ) (replies told : Told) (between after : Book)
-    (request : RequestData) (behind : List ℕ)
-    → Serves setting bytes before count rest replies between → count < most_requests → Begins rest request behind
-    → request.close ≡ true → TakesTurn setting request between told after
-    → ServesAll setting bytes closed before (both replies told) after
-closes_all setting bytes before count rest replies told between after request behind serves few begins closes replied = record {
-  requests = serves.requests ++ request ∷ [];
-  replies = both replies told;
-  splits = leads_closes bytes serves.requests rest request behind serves.leads begins closes;
-  within = omega (arith, length-append serves.requests (request ∷ []), serves.counted);
-  answered = answers_more setting before serves.requests replies between request told after serves.answered replied;
-  ends = sym (both_nothing (both replies told));
-}
-
-closed_not_cut : closed ≢ cut
-closed_not_cut e = cc
-
--- the bytes that a link gave before it failed hold the same requests, and no whole one more
-fails_all : (setting : Setting) (bytes : List ℕ) (left : Option (List ℕ)) (before : Book) (count : ℕ) (rest : List ℕ) (replies told : Told) (given : List ℕ) (between after : Book)
-    → Serves setting bytes before count rest replies between → count < most_requests → Some rest ≡ followed_by given left → IsUnfinished given
-    → told ≡ nothing → after ≡ between → Ended end.ReadFault setting bytes left before (both replies told) after
-fails_all setting bytes None before count rest replies told given between after serves few came unfinished words same = cc
-fails_all setting bytes (Some left) before count rest replies told given between after serves few came unfinished words same =
-    let is : rest ≡ given ++ left = cc in
-    let P : List ℕ → Type 0 = λ xs. LeadsTo bytes serves.requests xs in
-    let front = leads_front bytes serves.requests given left (subst P is serves.leads) in
-    let serves_front : Serves setting front.0 before count given replies between =
-    record { requests = serves.requests; counted = serves.counted; leads = front.2; answered = serves.answered } in
-    let all = λ (ending : Ending) (ends : Ends given ending) (none : last_words ending ≡ []).
-    ends_all setting front.0 before count given replies told between after ending serves_front few ends (words ∙ ap (λ w. only_written w) (sym none)) same in
-    elim unfinished [
-      | inl blank ↦ (front.0, clean, ap Some front.1, inl refl, all clean blank refl)
-      | inr inside ↦ (front.0, cut, ap Some front.1, inr refl, all cut inside refl)
-    ]
-
-ends_now : (ended : End) (setting : Setting) (bytes : List ℕ) (left : Option (List ℕ)) (before : Book) (count : ℕ)
-    (rest : List ℕ) (replies told : Told) (between after : Book)
-    → Serves setting bytes before count rest replies between → count < most_requests
-    → Finishes ended setting rest left between told after → Ended ended setting bytes left before (both replies told) after
-ends_now end.Closed setting bytes left before count rest replies told between after serves few (inl (ending, ends, not_cut, words, same)) =
-    (ending, not_cut, ends_all setting bytes before count rest replies told between after ending serves few ends words same)
-ends_now end.Closed setting bytes left before count rest replies told between after serves few (inr (request, behind, begins, closes, replied)) =
-    (closed, closed_not_cut, closes_all setting bytes before count rest replies told between after request behind serves few begins closes replied)
-ends_now end.Cut setting bytes left before count rest replies told between after serves few (ends, words, same) =
-    ends_all setting bytes before count rest replies told between after cut serves few ends words same
-ends_now end.Limit setting bytes left before count rest replies told between after serves few none = absurd none
-ends_now end.ReadFault setting bytes left before count rest replies told between after serves few (given, came, unfinished, words, same) =
-    fails_all setting bytes left before count rest replies told given between after serves few came unfinished words same
-ends_now end.WriteFault setting bytes left before count rest replies told between after serves few (whole, size, next, cut_off) = record {
-  count = count;
-  few = few;
-  rest = rest;
-  replies = replies;
-  between = between;
-  serves = serves;
-  whole = whole;
-  next = next;
-  size = size;
-  ends = ap (λ t. both replies t) cut_off;
-}
-ends_now end.Memory setting bytes left before count rest replies told between after serves few (begun, wants, words) = record {
-  count = count;
-  few = few;
-  rest = rest;
-  replies = replies;
-  between = between;
-  serves = serves;
-  begun = begun;
-  wants = wants;
-  ends = inl (ap (λ t. both replies t) words);
-}
-
 -- the connection ends at its next request, or at what is none
-pub served_to_end : (ended : End) (setting : Setting) (given : Option (List ℕ)) (left' : Option (List ℕ)) (before : Book) (count : ℕ)
-    (left : Option (List ℕ)) (first mid later : Account) (between after : Book)
-    → count < most_requests
-    → IfSome given (λ bytes. HasServed setting bytes before count left first mid between)
-    → IfSome left (λ rest. Brings (λ told. Finishes ended setting rest left' between told after) mid later)
-    → IfSome given (λ bytes. Brings (λ told. Ended ended setting bytes left' before told after) first later)
-served_to_end ended setting None left' before count left first mid later between after few served last = tt
-served_to_end ended setting (Some bytes) left' before count left first mid later between after few served last =
-    let step = rw served.leaves at last in (
-      both served.told step.0,
-      step.1 ∙ ap (λ a. account_after a step.0) served.counted ∙ account_more first served.told step.0,
-      ends_now ended setting bytes left' before count served.rest served.told step.0 between after served.serves few step.2,
-    )
+pub served_to_end : (ended : End) (setting : Setting) (count : ℕ) (before mid after : State) → count < most_requests
+    → Becomes setting (λ bytes. HasServed setting bytes count) before mid → Becomes setting (Finishes ended setting) mid after
+    → Becomes setting (λ bytes after. IsServed ended setting bytes after.left) before after
+served_to_end ended setting count before mid after few served next = by before.left served
+  where
+    and_end : (bytes : List ℕ) (xs ys : List Event) → (served : HasServed setting bytes count mid xs) → Finishes ended setting served.rest after ys
+        → IsServed ended setting bytes after.left (xs ++ ys)
+    and_end bytes xs ys served last =
+        let E : List RequestData → Type 0 = λ rs. Ended ended setting bytes after.left rs last.tail in
+        let open_all_of : open_ones (requests_of (served.exchanges ++ last.exchanges)) ≡ requests_of served.exchanges =
+        ap open_ones (requests_on served.exchanges last.exchanges)
+        ∙ filter-append (λ (r : RequestData). not r.close) (requests_of served.exchanges) (requests_of last.exchanges)
+        ∙ ap (λ rs. rs ++ open_ones (requests_of last.exchanges)) (open_all bytes (requests_of served.exchanges) served.rest served.begins)
+        ∙ ap (λ rs. requests_of served.exchanges ++ rs) last.closing ∙ append-nil (requests_of served.exchanges) in
+        let all_few : length (open_ones (requests_of (served.exchanges ++ last.exchanges))) < most_requests =
+        rw (open_all_of, requests_counted served.exchanges, served.counted) few in
+        record {
+          exchanges = served.exchanges ++ last.exchanges;
+          tail = last.tail;
+          whole = rw (served.whole, last.whole)
+              (sym (ap (λ t. t ++ last.tail) (trace_on served.exchanges last.exchanges)
+              ∙ append_assoc (trace_of served.exchanges) (trace_of last.exchanges) last.tail));
+          turns = All-append (IsTurn setting) served.exchanges last.exchanges served.turns last.turns;
+          ends = inl (subst E (sym (requests_on served.exchanges last.exchanges))
+              (ended_on ended setting bytes served.rest after.left (requests_of served.exchanges) (requests_of last.exchanges) last.tail last.going
+              served.begins last.ends));
+          within = inr (last.going, all_few);
+        }
 
--- as many requests were answered as a connection may bring
-pub served_most : (setting : Setting) (given left' : Option (List ℕ)) (before : Book) (count : ℕ) (left : Option (List ℕ)) (first later : Account) (after : Book)
-    → count ≡ most_requests → IfSome given (λ bytes. HasServed setting bytes before count left first later after)
-    → IfSome given (λ bytes. Brings (λ told. Ended end.Limit setting bytes left' before told after) first later)
-served_most setting None left' before count left first later after all served = tt
-served_most setting (Some bytes) left' before count left first later after all served = (
-  served.told,
-  served.counted,
-  (
-    served.rest,
-    record {
-      requests = served.serves.requests;
-      counted = served.serves.counted ∙ all;
-      leads = served.serves.leads;
-      answered = served.serves.answered;
-    },
-  ),
-)
+    by : (given : Option (List ℕ)) → IfSome given (λ bytes. Comes setting (HasServed setting bytes count mid) before mid)
+        → IfSome given (λ bytes. Comes setting (IsServed ended setting bytes after.left) before after)
+    by None h = tt
+    by (Some bytes) h =
+        then_on setting bytes count (Finishes ended setting) (λ after. IsServed ended setting bytes after.left) before mid after h next (and_end bytes)
 
--- memory was wanting before the first request
-pub served_never : (setting : Setting) (given : Option (List ℕ)) (first : Account) (book : Book)
-    → IfSome given (λ bytes. Brings (λ told. Ended end.Memory setting bytes given book told book) first first)
-served_never setting None first book = tt
-served_never setting (Some bytes) first book = (
-  nothing,
-  account_none first,
-  record {
-    count = 0;
-    few = omega arith;
-    rest = bytes;
-    replies = nothing;
-    between = book;
-    serves = record { requests = []; counted = refl; leads = refl; answered = (refl, refl) };
-    begun = nothing;
-    wants = inl (refl, refl);
-    ends = inr (refl, refl, refl, refl);
-  },
-)
+-- as many requests had their turns as a connection may bring
+pub served_most : (setting : Setting) (count : ℕ) (before : State) (known : Known) (left left' out : Option (List ℕ)) → count ≡ most_requests
+    → Becomes setting (λ bytes. HasServed setting bytes count) before (state known left out)
+    → Becomes setting (λ bytes after. IsServed end.Limit setting bytes after.left) before (state known left' out)
+served_most setting count before known left left' out full served = by before.left served
+  where
+    all : (bytes : List ℕ) (xs : List Event) → HasServed setting bytes count (state known left out) xs → IsServed end.Limit setting bytes left' xs
+    all bytes xs served = record {
+      exchanges = served.exchanges;
+      tail = [];
+      whole = served.whole ∙ sym (append-nil (trace_of served.exchanges));
+      turns = served.turns;
+      ends = inl (served.rest, served.begins, refl);
+      within = inl (refl, requests_counted served.exchanges ∙ served.counted ∙ full);
+    }
+
+    by : (given : Option (List ℕ)) → IfSome given (λ bytes. Comes setting (HasServed setting bytes count (state known left out)) before (state known left out))
+        → IfSome given (λ bytes. Comes setting (IsServed end.Limit setting bytes left') before (state known left' out))
+    by None h = tt
+    by (Some bytes) h =
+        comes_so setting (HasServed setting bytes count (state known left out)) (IsServed end.Limit setting bytes left') before (state known left' out) h (all bytes)
+
+-- memory ran out before the first request
+pub served_never : (setting : Setting) (known : Known) (left out : Option (List ℕ))
+    → Becomes setting (λ bytes after. IsServed end.Memory setting bytes after.left) (state known left out) (state known left out)
+served_never setting known None out = tt
+served_never setting known (Some bytes) out =
+    comes_none setting (IsServed end.Memory setting bytes (Some bytes)) known (Some bytes) (Some bytes) out out refl
+    (record { exchanges = []; tail = []; whole = refl; turns = All-nil (IsTurn setting); ends = inr (refl, refl, refl, refl); within = inr (λ i. cc, omega arith) })

@@ -1,6 +1,6 @@
-pub mod ConnectionLemmas
-pub mod EndLemmas
-pub mod StepLemmas
-pub mod ToldLemmas
-pub mod TurnLemmas
+mod ConnectionLemmas
+mod EventLemmas
+mod SoloLemmas
+mod StepLemmas
+mod TurnLemmas
 pub mod WalkLemmas

@@ -1,294 +1,264 @@
--- The edges that a connection's turns bring, and what following them leads to.
-use Rattle.std.proofs.Common.{◌≡◌, ℕ, zero, suc, Bool, true, false, ◌==◌, List, [], ◌∷◌, ◌++◌, map, Option, Some, Result, Ok, if◌then◌else◌, refl, sym, ◌∙◌, ap, subst, arith}
+-- The edges that a connection's turns were answered with, and what following them leads to.
+use Rattle.std.proofs.Common.{◌≡◌, ℕ, zero, suc, Bool, true, false, ◌==◌, List, [], ◌∷◌, ◌++◌, map, All, fold, Option, Some, None, IfSome, if◌then◌else◌, refl, sym, ◌∙◌, ap, subst, inl, inr, append_assoc, arith}
+use Rattle.std.proofs.lemmas.List.Sums.{fold-append}
 use Rattle.std.specs.Prelude.{slice_get, codes}
-use Rattle.std.specs.List.{flat_map}
-use Rattle.serde_json.specs.Data.{Data, null}
-use Rattle.serde_json.specs.Written.{compact_text}
-use Rattle.alto_names.specs.declared.label.NameFault.{NameFault}
-use Rattle.alto_names.specs.Name.{named, is_net_byte}
 use Rattle.alto_rows.specs.declared.resource.Resource.{Resource}
-use Rattle.alto_rows.specs.declared.resource.Resource.TheVariants as resource
 use Rattle.alto_rows.specs.Versions.{is_declared}
+use Rattle.edge_patch.specs.Documents.{has_document}
 use Rattle.tips_graph.specs.declared.status.EdgeStatus.{EdgeStatus}
 use Rattle.tips_graph.specs.declared.status.EdgeStatus.TheVariants.{Absent, Gone, Awaited, Ahead, Here}
 use Rattle.alto_book.specs.Book.{Book, Extends, rows_of}
-use Rattle.alto_book.specs.Import.{Import}
+use Rattle.alto_book.specs.Legal.{IsLegal}
 use Rattle.alto_book.specs.Numbers.{status_at}
-use Rattle.alto_book.specs.Walks.{edge_body, Edge, IsAnswered, IsWalk}
-use Rattle.alto_book.proofs.AcceptanceLemmas.{extends_itself, extends_on}
-use Rattle.alto_book.proofs.WalkLemmas.{walks_lead_on}
+use Rattle.alto_book.specs.Walks as walks
+use Rattle.alto_book.proofs.WalkLemmas.{bodies_stay, walks_lead_on}
 use Rattle.alto_http.specs.Request.{RequestData}
 use Rattle.alto_http.specs.declared.request.Verb.{Verb}
 use Rattle.alto_http.specs.declared.request.Verb.TheVariants as verb
-use Rattle.alto_replies.specs.Replies.{not_found, wrong_method, too_early, edit_reply}
+use Rattle.alto_replies.specs.Replies.{document_reply, not_found, wrong_method}
 use Rattle.alto_replies.specs.Reply.{ReplyData, bytes_of}
 use Rattle.alto_answers.specs.Answers.{AnswersTo}
-use Rattle.alto_answers.specs.Edges.{edge_by, edge_number, edge_reply, edges_answer}
-use Rattle.alto_answers.specs.Routes.{place_of}
+use Rattle.alto_answers.specs.Edges.{content_reply, edge_by, edge_reply, edges_answer}
 use Rattle.alto_answers.specs.Target.{path_of, segment}
+use Rattle.alto_answers.specs.Accept.{patch_form}
 use Rattle.alto_answers.specs.declared.outcome.Answer.{Answer}
 use Rattle.alto_answers.specs.declared.outcome.Answer.TheVariants as answer
-use Rattle.alto_answers.specs.declared.route.Place.{Place}
-use Rattle.alto_answers.specs.declared.route.Place.TheVariants as place
 use Rattle.alto_answers.specs.declared.route.Side.{Side}
-use Rattle.alto_serve.specs.Connections.{AnswersAll}
-use Rattle.alto_serve.specs.Told.{Told, both}
-use Rattle.alto_serve.specs.Turns.{Setting, Concludes, ComesTo, TakesTurn}
-use Rattle.alto_serve.specs.Walks.{AsksEdge, Exchange, Brought, LeadsAlong, ConnectionsLeadOn}
-use Rattle.alto_serve.proofs.TurnLemmas.{answered_extends}
+use Rattle.alto_serve.specs.declared.end.End.{End}
+use Rattle.alto_serve.specs.declared.end.End.TheVariants as end
+use Rattle.alto_serve.specs.Connections.{Comes, IsServed, IsTurn, Serves, State, events_of, state, trace_of}
+use Rattle.alto_serve.specs.Events.{Event, looked, entered, submitted, waited, wrote, Known, known_after, IsHistory}
+use Rattle.alto_serve.specs.Steps.{Becomes}
+use Rattle.alto_serve.specs.Turns.{IsReplied, Reaches, Setting, Stage, looks_next, has_answer, sees, submits}
+use Rattle.alto_serve.specs.Walks.{AsksEdge, EdgeAsked, Exchange, IsAnswered, IsWalk, WalksReachDocuments, edge_of}
+use Rattle.alto_serve.proofs.ConnectionLemmas.{served_never}
+use Rattle.alto_serve.proofs.EventLemmas.{history_behind, history_extends, history_legal}
 
 -- ---- the answer to a request for an edge
 
--- the value that an edge's text stands for, by where a path leads and what its segments are
-abbrev asked_value : Book → Option Place → Result (List ℕ) NameFault → Option ℕ → Option ℕ → Data
-asked_value look (Some place.Edge) (Ok net) (Some i) (Some j) = edge_body look (resource.Net net) i j
-asked_value look place net i j = null
-
--- the value that a request's edge has at a look
-abbrev value_at : Book → Side → RequestData → Data
-value_at look side request =
-    asked_value look (place_of side (path_of request.target)) (named is_net_byte 24 (segment (path_of request.target) 2))
-    (edge_number (segment (path_of request.target) 4)) (edge_number (segment (path_of request.target) 5))
-
-value-asked : (look : Book) (side : Side) (request : RequestData) (of : Resource) (i j : ℕ) → AsksEdge side request of i j
-    → value_at look side request ≡ edge_body look of i j
-value-asked look side request of i j a = rw (a.routed, a.names, a.from, a.to, a.map) refl
-
 -- an edge was answered 200 at a look
-pub record IsHad (look : Book) (of : Resource) (i j : ℕ) (reply : ReplyData) : Type 0 where
+pub record IsHad (look : Book) (of : Resource) (edge : EdgeAsked) (reply : ReplyData) : Type 0 where
   pub declared : is_declared (rows_of look) of ≡ true
-  pub here : status_at look of i j ≡ Here
-  pub body : reply.body ≡ compact_text (edge_body look of i j)
-
--- the bodies of the answers to edges that can be had
-body-edge_reply : (look : Book) (of : Resource) (i j : ℕ) → (edge_reply look of i j).body ≡ compact_text (edge_body look of i j)
-body-edge_reply look of i j = by (i == 0) refl
-  where
-    by : (b : Bool) → (i == 0) ≡ b → (edge_reply look of i j).body ≡ compact_text (edge_body look of i j)
-    by true e = rw e refl
-    by false e = rw e refl
-
--- two statuses that differ
-other_status : (reply other : ReplyData) (status : ℕ) → answer.Reply other ≡ answer.Reply reply → other.status ≡ status → (status ≡ 200 → ⊥) → reply.status ≡ 200 → ⊥
-other_status reply other status told is differs ok =
-    let same : other ≡ reply = cc in
-    differs (sym is ∙ (ap (λ (r : ReplyData). r.status) same ∙ ok))
-
--- an edge by its status: 200 says that it can be had
-had_by : (look : Book) (of : Resource) (i j : ℕ) (reply : ReplyData) (status : EdgeStatus) → status_at look of i j ≡ status
-    → is_declared (rows_of look) of ≡ true → edge_by status look of i j ≡ answer.Reply reply → reply.status ≡ 200 → IsHad look of i j reply
-had_by look of i j reply Absent is declared told ok = absurd (other_status reply _ 404 told refl (λ e. omega (arith, e)) ok)
-had_by look of i j reply Gone is declared told ok = absurd (other_status reply _ 410 told refl (λ e. omega (arith, e)) ok)
-had_by look of i j reply Awaited is declared told ok = cc
-had_by look of i j reply Ahead is declared told ok = absurd (other_status reply _ 425 told refl (λ e. omega (arith, e)) ok)
-had_by look of i j reply Here is declared told ok =
-    let same : edge_reply look of i j ≡ reply = cc in
-    record { declared = declared; here = is; body = ap (λ (r : ReplyData). r.body) (sym same) ∙ body-edge_reply look of i j }
+  pub here : status_at look of edge.i edge.j ≡ Here
+  pub same : reply ≡ edge_reply look of edge.form edge.i edge.j
 
 -- the answer to an edge of a resource, by whether it is declared
-abbrev edge_if : Bool → Book → Resource → ℕ → ℕ → Answer
-edge_if declared look of i j = if declared then edge_by (status_at look of i j) look of i j else answer.Reply (not_found (codes "resource"))
+abbrev edge_if : Bool → Book → Resource → EdgeAsked → Answer
+edge_if declared look of edge = if declared then edge_by (status_at look of edge.i edge.j) look of edge.form edge.i edge.j else answer.Reply (not_found (codes "resource"))
 
 -- and by the method
-abbrev edge_for : Verb → Book → Resource → ℕ → ℕ → Answer
-edge_for verb.Get look of i j = edge_if (is_declared (rows_of look) of) look of i j
-edge_for verb.Post look of i j = answer.Reply (wrong_method verb.Get)
-edge_for verb.Other look of i j = answer.Reply (wrong_method verb.Get)
+abbrev edge_for : Verb → Book → Resource → EdgeAsked → Answer
+edge_for verb.Get look of edge = edge_if (is_declared (rows_of look) of) look of edge
+edge_for verb.Post look of edge = answer.Reply (wrong_method verb.Get)
+edge_for verb.Other look of edge = answer.Reply (wrong_method verb.Get)
 
 -- what a request for an edge is answered
-answer-asked : (look : Book) (side : Side) (request : RequestData) (of : Resource) (i j : ℕ) (met : Answer) → AsksEdge side request of i j
-    → AnswersTo request look side met → met ≡ edge_for request.verb look of i j
+answer-asked : (look : Book) (side : Side) (request : RequestData) (of : Resource) (edge : EdgeAsked) (met : Answer) → AsksEdge side request of edge
+    → AnswersTo request look side met → met ≡ edge_for request.verb look of edge
 unfolding AnswersTo
-answer-asked look side request of i j met a is = (rw a.routed at is) ∙ by request.verb
+answer-asked look side request of edge met a is = (rw a.routed at is) ∙ by request.verb
   where
-    by : (v : Verb) → edges_answer v look (segment (path_of request.target) 2) (segment (path_of request.target) 4) (segment (path_of request.target) 5)
-        ≡ edge_for v look of i j
-    by verb.Get = rw (a.names, a.from, a.to, a.map) refl
+    by : (v : Verb) → edges_answer v look (patch_form request.accept) (segment (path_of request.target) 2) (segment (path_of request.target) 4) (segment (path_of request.target) 5)
+        ≡ edge_for v look of edge
+    by verb.Get = rw (a.names, a.from, a.to, a.accepts, a.map) refl
     by verb.Post = refl
     by verb.Other = refl
 
--- where it is 200, the edge can be had
-had_for : (v : Verb) (look : Book) (of : Resource) (i j : ℕ) (reply : ReplyData) → edge_for v look of i j ≡ answer.Reply reply → reply.status ≡ 200
-    → IsHad look of i j reply
-had_for verb.Get look of i j reply told ok = by (is_declared (rows_of look) of) refl told
-  where
-    by : (b : Bool) → is_declared (rows_of look) of ≡ b → edge_if b look of i j ≡ answer.Reply reply → IsHad look of i j reply
-    by true e found = had_by look of i j reply (status_at look of i j) refl e found ok
-    by false e found = absurd (other_status reply _ 404 found refl (λ e. omega (arith, e)) ok)
-had_for verb.Post look of i j reply told ok = absurd (other_status reply _ 405 told refl (λ e. omega (arith, e)) ok)
-had_for verb.Other look of i j reply told ok = absurd (other_status reply _ 405 told refl (λ e. omega (arith, e)) ok)
+-- where it is 200, the edge can be had; and it is no import
+abbrev IsEdgeAnswer : Book → Resource → EdgeAsked → Answer → Type 0
+IsEdgeAnswer look of edge (answer.Reply reply) = reply.status ≡ 200 → IsHad look of edge reply
+IsEdgeAnswer look of edge (answer.Hold held from to) = Unit {0}
+IsEdgeAnswer look of edge (answer.Edit import) = ⊥
 
--- it brings no import
-no_import_by : (status : EdgeStatus) (look : Book) (of : Resource) (i j : ℕ) (import : Import) → edge_by status look of i j ≡ answer.Edit import → ⊥
-no_import_by Absent look of i j import told = cc
-no_import_by Gone look of i j import told = cc
-no_import_by Awaited look of i j import told = cc
-no_import_by Ahead look of i j import told = cc
-no_import_by Here look of i j import told = cc
+answer_by : (look : Book) (of : Resource) (edge : EdgeAsked) (status : EdgeStatus) → status_at look of edge.i edge.j ≡ status
+    → is_declared (rows_of look) of ≡ true → IsEdgeAnswer look of edge (edge_by status look of edge.form edge.i edge.j)
+answer_by look of edge Absent is declared = λ ok. absurd (omega (arith, ok))
+answer_by look of edge Gone is declared = λ ok. absurd (omega (arith, ok))
+answer_by look of edge Awaited is declared = tt
+answer_by look of edge Ahead is declared = λ ok. absurd (omega (arith, ok))
+answer_by look of edge Here is declared = λ ok. record { declared = declared; here = is; same = refl }
 
-no_import : (v : Verb) (look : Book) (of : Resource) (i j : ℕ) (import : Import) → edge_for v look of i j ≡ answer.Edit import → ⊥
-no_import verb.Get look of i j import told = by (is_declared (rows_of look) of) told
+answer_for : (v : Verb) (look : Book) (of : Resource) (edge : EdgeAsked) → IsEdgeAnswer look of edge (edge_for v look of edge)
+answer_for verb.Get look of edge = by (is_declared (rows_of look) of) refl
   where
-    by : (b : Bool) → edge_if b look of i j ≡ answer.Edit import → ⊥
-    by true found = no_import_by (status_at look of i j) look of i j import found
-    by false found = cc
-no_import verb.Post look of i j import told = cc
-no_import verb.Other look of i j import told = cc
+    by : (b : Bool) → is_declared (rows_of look) of ≡ b → IsEdgeAnswer look of edge (edge_if b look of edge)
+    by true e = answer_by look of edge (status_at look of edge.i edge.j) refl e
+    by false e = λ ok. absurd (omega (arith, ok))
+answer_for verb.Post look of edge = λ ok. absurd (omega (arith, ok))
+answer_for verb.Other look of edge = λ ok. absurd (omega (arith, ok))
+
+edge_answer : (look : Book) (side : Side) (request : RequestData) (of : Resource) (edge : EdgeAsked) (met : Answer) → AsksEdge side request of edge
+    → AnswersTo request look side met → IsEdgeAnswer look of edge met
+edge_answer look side request of edge met a is =
+    let P : Answer → Type 0 = λ met. IsEdgeAnswer look of edge met in
+    subst P (sym (answer-asked look side request of edge met a is)) (answer_for request.verb look of edge)
 
 -- ---- a turn
 
--- a turn told a reply; where it answers an edge by 200, the value is what the edge holds at a book that is extended
-pub record IsTold (setting : Setting) (request : RequestData) (told : Told) (after : Book) : Type 0 where
-  pub reply : ReplyData
-  pub value : Data
-  pub written : told.written ≡ bytes_of reply request.close
-  pub brings : (of : Resource) (i j : ℕ) → AsksEdge setting.side request of i j → reply.status ≡ 200
-      → (reply.body ≡ compact_text value) × IsAnswered after of (record { i = i; j = j; body = value })
+-- a legal book extends one at which an edge was had
+pub record WasHad (book : Book) (of : Resource) (edge : EdgeAsked) (reply : ReplyData) : Type 0 where
+  pub legal : IsLegal book
+  pub look : Book
+  pub extends : Extends book look
+  pub had : IsHad look of edge reply
 
--- a reply that stands
-replied : (setting : Setting) (request : RequestData) (look : Book) (reply : ReplyData) → AnswersTo request look setting.side (answer.Reply reply)
-    → (of : Resource) (i j : ℕ) → AsksEdge setting.side request of i j → reply.status ≡ 200
-    → (reply.body ≡ compact_text (value_at look setting.side request))
-    × IsAnswered look of (record { i = i; j = j; body = value_at look setting.side request })
-replied setting request look reply is of i j a ok =
-    let had : IsHad look of i j reply = had_for request.verb look of i j reply (sym (answer-asked look setting.side request of i j (answer.Reply reply) a is)) ok in
-    let value : value_at look setting.side request ≡ edge_body look of i j = value-asked look setting.side request of i j a in
-    (had.body ∙ ap compact_text (sym value), record { look = look; extends = extends_itself look; declared = had.declared; here = had.here; body = value })
+-- what was looked at last is the book that is seen; and no import was entered
+abbrev IsAt : Stage → Book → Type 0
+IsAt (looks_next left) seen = Unit {0}
+IsAt (sees left book) seen = (book ≡ seen) × IsLegal seen
+IsAt (submits import) seen = ⊥
+IsAt (has_answer moment decided) seen = ⊥
 
-concluded : (setting : Setting) (request : RequestData) (met : Answer) (now : Book) (told : Told) (after : Book) → AnswersTo request now setting.side met
-    → Concludes setting.alone setting.time request.close met now told after → IsTold setting request told after × Extends after now
-concluded setting request (answer.Reply reply) now told after is (t, same) = (
-  record {
-    reply = reply;
-    value = value_at now setting.side request;
-    written = ap (λ (told : Told). told.written) t;
-    brings = λ of i j a ok. rw same (replied setting request now reply is of i j a ok);
-  },
-  rw same (extends_itself now),
-)
-concluded setting request (answer.Hold held i j) now told after is (t, same) = (
-  record {
-    reply = too_early i;
-    value = null;
-    written = ap (λ (told : Told). told.written) t;
-    brings = λ of i j a ok. absurd (omega (arith, ok));
-  },
-  rw same (extends_itself now),
-)
-concluded setting request (answer.Edit import) now told after is (moment, decided, faults, timely, answered, t) = (
-  record {
-    reply = edit_reply decided;
-    value = null;
-    written = ap (λ (told : Told). told.written) t;
-    brings = λ of i j a ok. absurd (no_import request.verb now of i j import (sym (answer-asked now setting.side request of i j (answer.Edit import) a is)));
-  },
-  answered_extends setting.alone now import moment faults decided after answered,
-)
+-- a reply to an edge, and whatever happens then
+replied_had : (alone : Bool) (side : Side) (request : RequestData) (known : Known) (stage : Stage) (events : List Event) (told : ReplyData)
+    → IsAt stage known.seen → IsReplied side request stage told → IsHistory alone known events
+    → (of : Resource) (edge : EdgeAsked) → AsksEdge side request of edge → told.status ≡ 200
+    → WasHad (fold (known_after alone) known events).seen of edge told
+replied_had alone side request known (looks_next left) events told at replied may of edge a ok = absurd replied
+replied_had alone side request known (submits import) events told at replied may of edge a ok = absurd at
+replied_had alone side request known (has_answer moment decided) events told at replied may of edge a ok = absurd at
+replied_had alone side request known (sees left book) events told (same, legal) (inr (held, from, to, answers, none, is)) may of edge a ok =
+    absurd (omega (arith, sym (ap (λ (r : ReplyData). r.status) is) ∙ ok))
+replied_had alone side request known (sees left book) events told (same, legal) (inl answers) may of edge a ok =
+    let A : Book → Type 0 = λ book. AnswersTo request book side (answer.Reply told) in
+    record {
+      legal = history_legal alone known events may legal;
+      look = known.seen;
+      extends = history_extends alone known events may;
+      had = edge_answer known.seen side request of edge (answer.Reply told) a (subst A same answers) ok;
+    }
 
-comes : (setting : Setting) (request : RequestData) (turns : ℕ) (met : Answer) (now : Book) (told : Told) (after : Book)
-    → AnswersTo request now setting.side met → ComesTo setting request turns met now told after → IsTold setting request told after × Extends after now
-comes setting request zero met now told after is c = concluded setting request met now told after is c
-comes setting request (suc turns) (answer.Reply reply) now told after is c = concluded setting request (answer.Reply reply) now told after is c
-comes setting request (suc turns) (answer.Edit import) now told after is c = concluded setting request (answer.Edit import) now told after is c
-comes setting request (suc turns) (answer.Hold of i j) now told after is (next, look, rest, e, met, answers, c) =
-    let later : IsTold setting request rest after × Extends after next = comes setting request turns met next rest after answers c in (
-      record { reply = later.0.reply; value = later.0.value; written = ap (λ (told : Told). told.written) e ∙ later.0.written; brings = later.0.brings },
-      extends_on _ _ _ look.extends later.1,
-    )
-
-pub turn_told : (setting : Setting) (request : RequestData) (before : Book) (told : Told) (after : Book) → TakesTurn setting request before told after
-    → IsTold setting request told after × Extends after before
-turn_told setting request before told after (first, look, rest, e, met, answers, c) =
-    let later : IsTold setting request rest after × Extends after first =
-    comes setting request setting.turns met first rest after answers c in (
-      record { reply = later.0.reply; value = later.0.value; written = ap (λ (told : Told). told.written) e ∙ later.0.written; brings = later.0.brings },
-      extends_on _ _ _ look.extends later.1,
-    )
+reaches_had : (alone : Bool) (side : Side) (request : RequestData) (known : Known) (stage last : Stage) (events rest : List Event) (told : ReplyData)
+    → IsAt stage known.seen → Reaches side request stage events last → IsReplied side request last told → IsHistory alone known (events ++ rest)
+    → (of : Resource) (edge : EdgeAsked) → AsksEdge side request of edge → told.status ≡ 200
+    → WasHad (fold (known_after alone) known (events ++ rest)).seen of edge told
+reaches_had alone side request known stage last [] rest told at reached replied may of edge a ok =
+    let R : Stage → Type 0 = λ stage. IsReplied side request stage told in
+    replied_had alone side request known stage rest told at (subst R (sym reached) replied) may of edge a ok
+reaches_had alone side request known (looks_next left) last (looked book ∷ events) rest told at (next, goes, reached) replied may of edge a ok =
+    let R : Stage → Type 0 = λ stage. Reaches side request stage events last in
+    reaches_had alone side request (known_after alone known (looked book)) (sees left book) last events rest told
+    (refl, may.0.legal) (subst R goes reached) replied may.1 of edge a ok
+reaches_had alone side request known (sees left book) last (waited n ∷ events) rest told at (next, (fewer, held, from, to, one, answers, number, is), reached) replied may of edge a ok =
+    let R : Stage → Type 0 = λ stage. Reaches side request stage events last in
+    reaches_had alone side request (known_after alone known (waited n)) (looks_next fewer) last events rest told
+    tt (subst R is reached) replied may.1 of edge a ok
+reaches_had alone side request known (sees left book) last (entered look ∷ events) rest told at (next, (import, answers, is), reached) replied may of edge a ok =
+    absurd (edge_answer book side request of edge (answer.Edit import) a answers)
+reaches_had alone side request known (submits import) last (event ∷ events) rest told at reached replied may of edge a ok = absurd at
+reaches_had alone side request known (has_answer moment decided) last (event ∷ events) rest told at reached replied may of edge a ok = absurd at
+reaches_had alone side request known (looks_next left) last (entered book ∷ events) rest told at (next, goes, reached) replied may of edge a ok = absurd goes
+reaches_had alone side request known (looks_next left) last (submitted import moment faults decided book ∷ events) rest told at (next, goes, reached) replied may of edge a ok = absurd goes
+reaches_had alone side request known (looks_next left) last (waited n ∷ events) rest told at (next, goes, reached) replied may of edge a ok = absurd goes
+reaches_had alone side request known (looks_next left) last (wrote bytes ∷ events) rest told at (next, goes, reached) replied may of edge a ok = absurd goes
+reaches_had alone side request known (sees left look) last (looked book ∷ events) rest told at (next, goes, reached) replied may of edge a ok = absurd goes
+reaches_had alone side request known (sees left look) last (submitted import moment faults decided book ∷ events) rest told at (next, goes, reached) replied may of edge a ok = absurd goes
+reaches_had alone side request known (sees left look) last (wrote bytes ∷ events) rest told at (next, goes, reached) replied may of edge a ok = absurd goes
 
 -- ---- all turns
 
--- what was answered at a book is answered at a later one
-answered_later : (between after : Book) (of : Resource) (edge : Edge) → Extends after between → IsAnswered between of edge → IsAnswered after of edge
-answered_later between after of edge more a =
-    record { look = a.look; extends = extends_on _ _ _ a.extends more; declared = a.declared; here = a.here; body = a.body }
+-- the edge that an exchange asked for, if it was answered 200, was had
+abbrev Had : Side → Exchange → Book → Type 0
+Had side e book = (of : Resource) (edge : EdgeAsked) → AsksEdge side e.request of edge → e.reply.status ≡ 200 → WasHad book of edge e.reply
 
--- exchanges that turns are
-record Tells (side : Side) (requests : List RequestData) (told : Told) (before after : Book) : Type 0 where
-  exchanges : List Exchange
-  whole : map (λ exchange. exchange.request) exchanges ≡ requests
-  written : told.written ≡ flat_map (λ exchange. bytes_of exchange.reply exchange.request.close) exchanges
-  extends : Extends after before
-  each : (n : ℕ) (exchange : Exchange) → slice_get exchanges n ≡ Some exchange → (of : Resource) (i j : ℕ) → AsksEdge side exchange.request of i j
-      → exchange.reply.status ≡ 200 → (exchange.reply.body ≡ compact_text exchange.value) × IsAnswered after of (record { i = i; j = j; body = exchange.value })
-
--- one turn before them
-one_more_told : (setting : Setting) (request : RequestData) (requests : List RequestData) (before between after : Book) (first more : Told)
-    → IsTold setting request first between × Extends between before → Tells setting.side requests more between after
-    → Tells setting.side (request ∷ requests) (both first more) before after
-one_more_told setting request requests before between after first more now later = record {
-  exchanges = this ∷ later.exchanges;
-  whole = ap (λ (rs : List RequestData). request ∷ rs) later.whole;
-  written = λ i. now.0.written i ++ later.written i;
-  extends = extends_on _ _ _ now.1 later.extends;
-  each = at;
-}
-  where
-    this : Exchange
-    this = record { request = request; reply = now.0.reply; value = now.0.value }
-
-    Says : Exchange → Type 0
-    Says exchange = (of : Resource) (i j : ℕ) → AsksEdge setting.side exchange.request of i j → exchange.reply.status ≡ 200
-        → (exchange.reply.body ≡ compact_text exchange.value) × IsAnswered after of (record { i = i; j = j; body = exchange.value })
-
-    said : Says this
-    said of i j a ok =
-        let b = now.0.brings of i j a ok in
-        (b.0, answered_later between after of _ later.extends b.1)
-
-    at : (n : ℕ) (exchange : Exchange) → slice_get (this ∷ later.exchanges) n ≡ Some exchange → Says exchange
-    at zero exchange there = let same : this ≡ exchange = cc in subst Says same said
-    at (suc n) exchange there = later.each n exchange there
-
-all_told : (setting : Setting) (before : Book) (requests : List RequestData) (told : Told) (after : Book) → AnswersAll setting before requests told after
-    → Tells setting.side requests told before after
-all_told setting before [] told after (e, same) = record {
-  exchanges = [];
-  whole = refl;
-  written = ap (λ (told : Told). told.written) e;
-  extends = rw same (extends_itself before);
-  each = λ n exchange there. cc;
-}
-all_told setting before (request ∷ requests) told after (first, between, more, turn, e, rest) =
-    rw e (one_more_told setting request requests before between after first more (turn_told setting request before first between turn) (all_told setting between requests more after rest))
+all_had : (alone : Bool) (setting : Setting) (known : Known) (exchanges : List Exchange) (tail : List Event) → All (IsTurn setting) exchanges
+    → IsHistory alone known (trace_of exchanges ++ tail)
+    → (n : ℕ) (e : Exchange) → slice_get exchanges n ≡ Some e
+    → Had setting.side e (fold (known_after alone) known (trace_of exchanges ++ tail)).seen
+all_had alone setting known [] tail turns may n e there = cc
+all_had alone setting known (first ∷ exchanges) tail turns may zero e there =
+    let same : first ≡ e = cc in
+    let turn = turns 0 first (omega arith) in
+    let more = wrote (bytes_of first.reply first.request.close) ∷ (trace_of exchanges ++ tail) in
+    let whole : (events_of first ++ trace_of exchanges) ++ tail ≡ first.events ++ more =
+    append_assoc (events_of first) (trace_of exchanges) tail ∙ append_assoc first.events _ (trace_of exchanges ++ tail) in
+    let H : List Event → Type 0 = λ xs. IsHistory alone known xs in
+    let W : List Event → Type 0 = λ xs. Had setting.side first (fold (known_after alone) known xs).seen in
+    let Q : Exchange → Type 0 = λ x. Had setting.side x (fold (known_after alone) known (trace_of (first ∷ exchanges) ++ tail)).seen in
+    subst Q same
+    (subst W (sym whole)
+    (reaches_had alone setting.side first.request known (looks_next setting.turns) turn.0 first.events more first.reply tt turn.1.0 turn.2 (subst H whole may)))
+all_had alone setting known (first ∷ exchanges) tail turns may (suc n) e there =
+    let whole = append_assoc (events_of first) (trace_of exchanges) tail in
+    let H : List Event → Type 0 = λ xs. IsHistory alone known xs in
+    let W : List Event → Type 0 = λ xs. Had setting.side e (fold (known_after alone) known xs).seen in
+    let K : Known → Type 0 = λ known. Had setting.side e known.seen in
+    subst W (sym whole)
+    (subst K (sym (fold-append (known_after alone) known (events_of first) (trace_of exchanges ++ tail)))
+    (all_had alone setting (fold (known_after alone) known (events_of first)) exchanges tail (λ k d lt. turns (suc k) d (omega (arith, lt)))
+    (history_behind alone known (events_of first) (trace_of exchanges ++ tail) (subst H whole may)) n e there))
 
 -- ---- walks
 
-pub connections_lead_on : ConnectionsLeadOn
-connections_lead_on setting before after requests told legal answers = record {
-  exchanges = all.exchanges;
-  whole = all.whole;
-  written = all.written;
-  bodies = bodies;
-  walks = λ of from at first edges held has along start. walks_lead_on after of from at first edges held legal has (walk of from (first ∷ edges) at along) start;
+-- each edge that was answered was had
+abbrev AreHad : Side → List Exchange → Book → Type 0
+AreHad side exchanges book =
+    (of : Resource) (edge : EdgeAsked) (reply : ReplyData) → IsAnswered side exchanges of edge reply → WasHad book of edge reply
+
+edge-answered : (book : Book) (of : Resource) (edge : EdgeAsked) (reply : ReplyData) → WasHad book of edge reply
+    → walks.IsAnswered book of (edge_of book of edge)
+edge-answered book of edge reply was =
+    let then_body : walks.IsAnswered book of (edge_of was.look of edge) =
+    record { look = was.look; extends = was.extends; declared = was.had.declared; here = was.had.here; content = refl } in
+    let same = sym (bodies_stay book of _ was.legal then_body) in
+    record { look = was.look; extends = was.extends; declared = was.had.declared; here = was.had.here; content = same }
+
+reply-stays : (book : Book) (of : Resource) (edge : EdgeAsked) (reply : ReplyData) → WasHad book of edge reply → reply ≡ edge_reply book of edge.form edge.i edge.j
+unfolding edge-answered
+reply-stays book of edge reply was = was.had.same ∙ ap (content_reply of) (sym (edge-answered book of edge reply was).content)
+
+walk_had : (side : Side) (exchanges : List Exchange) (book : Book) (of : Resource) (from : ℕ) (edges : List EdgeAsked) (at : ℕ)
+    → AreHad side exchanges book → IsWalk side exchanges of from edges at → walks.IsWalk book of from (map (edge_of book of) edges) at
+walk_had side exchanges book of from [] at had along = along
+walk_had side exchanges book of from (edge ∷ edges) at had (begins, answered, along) =
+    (begins, edge-answered book of edge answered.0 (had of edge answered.0 answered.1), walk_had side exchanges book of edge.j edges at had along)
+
+walks_reach : (side : Side) (exchanges : List Exchange) (book : Book) → AreHad side exchanges book → WalksReachDocuments side exchanges book
+walks_reach side exchanges book had = record {
+  replies = λ of edge reply answered. reply-stays book of edge reply (had of edge reply answered);
+  bodies = λ of edge reply answered. ap (λ (r : ReplyData). r.body) (reply-stays book of edge reply (had of edge reply answered));
+  walks = λ of from at first edges held along start.
+      walks_lead_on book of from at (edge_of book of first) (map (edge_of book of) edges) held
+      (had of first along.1.0 along.1.1).legal (ap has_document along.1.1.asked.map)
+      (walk_had side exchanges book of from (first ∷ edges) at had along) start;
 }
+
+-- ---- a connection
+
+served_had : (ended : End) (setting : Setting) (bytes : List ℕ) (left : Option (List ℕ)) (known : Known) (events : List Event)
+    → IsHistory setting.alone known events → (served : IsServed ended setting bytes left events)
+    → AreHad setting.side served.exchanges (fold (known_after setting.alone) known events).seen
+served_had ended setting bytes left known events may served of edge reply answered =
+    let H : List Event → Type 0 = λ xs. IsHistory setting.alone known xs in
+    let W : List Event → Type 0 = λ xs. WasHad (fold (known_after setting.alone) known xs).seen of edge reply in
+    let R : ReplyData → Type 0 = λ r. WasHad (fold (known_after setting.alone) known (trace_of served.exchanges ++ served.tail)).seen of edge r in
+    subst W (sym served.whole)
+    (subst R answered.replied
+    (all_had setting.alone setting known served.exchanges served.tail served.turns (subst H served.whole may) answered.place answered.exchange answered.there
+    of edge answered.asked (ap (λ (r : ReplyData). r.status) answered.replied ∙ answered.ok)))
+
+walks_now : (ended : End) (setting : Setting) (bytes : List ℕ) (before after : State)
+    → Comes setting (IsServed ended setting bytes after.left) before after
+    → Comes setting (λ events. (served : IsServed ended setting bytes after.left events)
+    × WalksReachDocuments setting.side served.exchanges after.known.seen) before after
+walks_now ended setting bytes before after (events, may, is, (out, served)) =
+    let B : Known → Type 0 = λ known. WalksReachDocuments setting.side served.exchanges known.seen in
+    let had = served_had ended setting bytes after.left before.known events may served in
+    (events, may, is, (out, (served, subst B (sym is) (walks_reach setting.side served.exchanges _ had))))
+
+-- walks along the edges of what was served
+pub served_walks : (ended : End) (setting : Setting) (before after : State)
+    → Becomes setting (λ bytes after. IsServed ended setting bytes after.left) before after → Serves ended setting before after
+served_walks ended setting before after served = by before.left served
   where
-    all : Tells setting.side requests told before after
-    all = all_told setting before requests told after answers
+    by : (given : Option (List ℕ)) → IfSome given (λ bytes. Comes setting (IsServed ended setting bytes after.left) before after)
+        → IfSome given (λ bytes. Comes setting (λ events. (served : IsServed ended setting bytes after.left events)
+        × WalksReachDocuments setting.side served.exchanges after.known.seen) before after)
+    by None h = tt
+    by (Some bytes) h = walks_now ended setting bytes before after h
 
-    bodies : (of : Resource) (edge : Edge) → (b : Brought setting.side all.exchanges of edge)
-        → (b.exchange.reply.body ≡ compact_text edge.body) × IsAnswered after of edge
-    bodies of edge b =
-        let told = all.each b.place b.exchange b.there of edge.i edge.j b.asked b.answered in (
-          told.0 ∙ ap compact_text (sym b.body),
-          record {
-            look = told.1.look;
-            extends = told.1.extends;
-            declared = told.1.declared;
-            here = told.1.here;
-            body = b.body ∙ told.1.body;
-          },
-        )
-
-    walk : (of : Resource) (from : ℕ) (edges : List Edge) (at : ℕ) → LeadsAlong setting.side all.exchanges of from edges at → IsWalk after of from edges at
-    walk of from [] at along = along
-    walk of from (edge ∷ edges) at (begins, b, along) = (begins, (bodies of edge b).1, walk of edge.j edges at along)
+-- memory ran out before the first request
+pub served_idle : (setting : Setting) (known : Known) (left out : Option (List ℕ))
+    → Serves end.Memory setting (state known left out) (state known left out)
+served_idle setting known left out =
+    served_walks end.Memory setting (state known left out) (state known left out) (served_never setting known left out)

@@ -1,133 +1,145 @@
--- What a connection comes to: its requests are answered in turn, and then it ends (RFC 9112, sections 2.2 and 9).
-use Rattle.std.specs.Prelude.{◌≡◌, ◌≢◌, ◌⊎◌, ℕ, ◌<◌, ◌≤◌, true, false, List, [], ◌∷◌, length, take, Option, Some, None}
-use Rattle.alto_book.specs.Book.{Book}
-use Rattle.alto_http.specs.Link.{followed_by}
+-- What a connection comes to: its requests have their turns, one after another, and then it ends (RFC 9112, sections
+-- 2.2 and 9).
+use Rattle.std.specs.Prelude.{◌≡◌, ◌≢◌, ◌⊎◌, ℕ, ◌<◌, List, [], ◌∷◌, ◌++◌, length, take, map, filter, not, false, true, Option, Some, None, IfSome, All}
+use Rattle.std.specs.List.{flat_map}
+use Rattle.alto_http.specs.Link.{extended, followed_by}
 use Rattle.alto_http.specs.Request.{RequestData}
 use Rattle.alto_http.specs.Splits.{Begins, IsRefused, Ending, clean, closed, cut, refused, Splits}
 use Rattle.alto_http.specs.declared.fault.HeadFault.{HeadFault}
+use Rattle.alto_replies.specs.Replies.{head_status, status_alone}
+use Rattle.alto_replies.specs.Reply.{ReplyData, bytes_of, memory_reply}
 use Rattle.alto_serve.specs.declared.end.End.{End}
 use Rattle.alto_serve.specs.declared.end.End.TheVariants as end
-use Rattle.alto_replies.specs.Replies.{head_status, status_alone}
-use Rattle.alto_replies.specs.Reply.{bytes_of, memory_reply}
-use Rattle.alto_serve.specs.Told.{Told, nothing, only_written, both}
-use Rattle.alto_serve.specs.Turns.{IsBegun, Setting, TakesTurn}
+use Rattle.alto_serve.specs.Events.{Event, wrote, Known, Emits, bytes_in}
+use Rattle.alto_serve.specs.Turns.{Setting, TakesTurn, IsCutOff}
+use Rattle.alto_serve.specs.Walks.{Exchange, WalksReachDocuments}
 
 -- the most requests that a connection brings
 abbrev pub most_requests : ℕ
 most_requests = 1000000
 
--- requests have their turns, one after another
-abbrev pub AnswersAll : Setting → Book → List RequestData → Told → Book → Type 0
-AnswersAll setting before [] told after = (told ≡ nothing) × (after ≡ before)
-AnswersAll setting before (request ∷ requests) told after =
-    (first : Told) × (between : Book) × (more : Told)
-    × TakesTurn setting request before first between × (told ≡ both first more)
-    × AnswersAll setting between requests more after
+-- ---- exchanges
 
--- bytes are these requests, none of which closes, and then the rest
-abbrev pub LeadsTo : List ℕ → List RequestData → List ℕ → Type 0
-LeadsTo bytes [] rest = bytes ≡ rest
-LeadsTo bytes (request ∷ requests) rest =
-    (behind : List ℕ) × Begins bytes request behind × (request.close ≡ false) × LeadsTo behind requests rest
+-- a request had its turn, which led to its reply
+abbrev pub IsTurn : Setting → Exchange → Type 0
+IsTurn setting exchange = TakesTurn setting exchange.request exchange.events exchange.reply
 
--- the first requests of the bytes, so many of them, were replied to, and the connection goes on at the rest
-pub record Serves
-    (setting : Setting) (bytes : List ℕ) (before : Book) (count : ℕ) (rest : List ℕ) (told : Told) (after : Book)
-    : Type 0 where
-  pub requests : List RequestData
-  pub counted : length requests ≡ count
-  pub leads : LeadsTo bytes requests rest
-  pub answered : AnswersAll setting before requests told after
+-- a turn's events, and then its reply is written
+abbrev pub events_of : Exchange → List Event
+events_of exchange = exchange.events ++ wrote (bytes_of exchange.reply exchange.request.close) ∷ []
+
+-- what happens in exchanges, one after another
+abbrev pub trace_of : List Exchange → List Event
+trace_of exchanges = flat_map events_of exchanges
+
+-- the requests of exchanges
+abbrev pub requests_of : List Exchange → List RequestData
+requests_of exchanges = map (λ exchange. exchange.request) exchanges
+
+-- the requests that leave the connection open
+abbrev pub open_ones : List RequestData → List RequestData
+open_ones requests = filter (λ request. not request.close) requests
+
+-- ---- ends
+
+-- bytes begin with these requests, none of which closes, and the rest follows them
+abbrev pub BeginWith : List ℕ → List RequestData → List ℕ → Type 0
+BeginWith bytes [] rest = bytes ≡ rest
+BeginWith bytes (request ∷ requests) rest =
+    (behind : List ℕ) × Begins bytes request behind × (request.close ≡ false) × BeginWith behind requests rest
 
 -- the bytes that refuse a head, where its fault has a status
 abbrev pub refusal_bytes : Option ℕ → List ℕ
 refusal_bytes None = []
 refusal_bytes (Some status) = bytes_of (status_alone status) true
 
--- what is written at an ending, behind the replies
-abbrev pub last_words : Ending → List ℕ
-last_words clean = []
-last_words closed = []
-last_words cut = []
-last_words (refused fault) = refusal_bytes (head_status fault)
+-- what happens at an ending: a refusal is written
+abbrev pub refusal_at : Ending → List Event
+refusal_at clean = []
+refusal_at closed = []
+refusal_at cut = []
+refusal_at (refused fault) = wrote (refusal_bytes (head_status fault)) ∷ []
 
--- how many requests may stand before an ending: the last that a connection may bring ends it only where it closes
-abbrev pub IsWithin : Ending → ℕ → Type 0
-IsWithin closed count = count ≤ most_requests
-IsWithin clean count = count < most_requests
-IsWithin cut count = count < most_requests
-IsWithin (refused fault) count = count < most_requests
+-- memory ran out while the rest of the bytes was read, or in the turn of the request that it begins with
+abbrev pub RunsOutOfMemory : Setting → List ℕ → List Event → Type 0
+RunsOutOfMemory setting rest events =
+    (events ≡ [])
+    ⊎ ((request : RequestData) × (behind : List ℕ) × Begins rest request behind × IsCutOff setting request events)
 
--- the bytes are requests that were all replied to, and an ending
-pub record ServesAll
-    (setting : Setting) (bytes : List ℕ) (ending : Ending) (before : Book) (told : Told) (after : Book)
-    : Type 0 where
-  pub requests : List RequestData
-  pub replies : Told
-  pub splits : Splits bytes requests ending
-  pub within : IsWithin ending (length requests)
-  pub answered : AnswersAll setting before requests replies after
-  pub ends : told ≡ both replies (only_written (last_words ending))
+-- what is written next, behind these events: the reply to the next request, the refusal of what is none, or a 500 where
+-- memory ran out
+abbrev pub IsNext : Setting → List ℕ → List Event → List ℕ → Type 0
+IsNext setting rest events bytes =
+    ((request : RequestData) × (behind : List ℕ) × (reply : ReplyData)
+    × Begins rest request behind × TakesTurn setting request events reply × (bytes ≡ bytes_of reply request.close))
+    ⊎ ((fault : HeadFault) × IsRefused rest fault × (events ≡ []) × (bytes ≡ refusal_bytes (head_status fault)))
+    ⊎ (RunsOutOfMemory setting rest events × (bytes ≡ memory_reply))
 
--- memory is wanting while the next request is read, or while it has its turn
-abbrev pub WantsMemory : Setting → List ℕ → Book → Told → Book → Type 0
-WantsMemory setting rest before told after =
-    ((told ≡ nothing) × (after ≡ before))
-    ⊎ ((request : RequestData) × (behind : List ℕ) × Begins rest request behind
-    × IsBegun setting request before told after)
-
--- what comes next to be told: the reply to the next request, the refusal of what is none, or the reply to want of
--- memory
-abbrev pub IsNext : Setting → List ℕ → Book → Told → Book → Type 0
-IsNext setting rest before told after =
-    ((request : RequestData) × (behind : List ℕ) × Begins rest request behind
-    × TakesTurn setting request before told after)
-    ⊎ ((fault : HeadFault) × IsRefused rest fault
-    × (told ≡ only_written (refusal_bytes (head_status fault))) × (after ≡ before))
-    ⊎ ((begun : Told) × WantsMemory setting rest before begun after × (told ≡ both begun (only_written memory_reply)))
-
--- the same, of whose bytes only so many were written
-abbrev pub cut_off : ℕ → Told → Told
-cut_off size told = record told { written = take size told.written }
-
--- requests were replied to, and then a write failed: a front of what came next is out
-pub record BreaksOff (setting : Setting) (bytes : List ℕ) (before : Book) (told : Told) (after : Book) : Type 0 where
-  pub count : ℕ
-  pub few : count < most_requests
-  pub rest : List ℕ
-  pub replies : Told
-  pub between : Book
-  pub serves : Serves setting bytes before count rest replies between
-  pub whole : Told
-  pub next : IsNext setting rest between whole after
-  pub size : ℕ
-  pub ends : told ≡ both replies (cut_off size whole)
-
--- requests were replied to, and then memory was wanting, which was told; or it was wanting before a byte was read
-pub record RunsShort
-    (setting : Setting) (bytes : List ℕ) (left : Option (List ℕ)) (before : Book) (told : Told) (after : Book)
-    : Type 0 where
-  pub count : ℕ
-  pub few : count < most_requests
-  pub rest : List ℕ
-  pub replies : Told
-  pub between : Book
-  pub serves : Serves setting bytes before count rest replies between
-  pub begun : Told
-  pub wants : WantsMemory setting rest between begun after
-  pub ends : (told ≡ both replies (both begun (only_written memory_reply)))
-      ⊎ ((told ≡ nothing) × (count ≡ 0) × (after ≡ before) × (left ≡ Some bytes))
-
--- what each end says of the bytes that the link had to give, of those that it has left, of what was told, and of the
--- book. A read's fault: each request was answered that lay whole in what the link gave
-abbrev pub Ended : End → Setting → List ℕ → Option (List ℕ) → Book → Told → Book → Type 0
-Ended end.Closed setting bytes left before told after =
-    (ending : Ending) × (ending ≢ cut) × ServesAll setting bytes ending before told after
-Ended end.Cut setting bytes left before told after = ServesAll setting bytes cut before told after
-Ended end.Limit setting bytes left before told after =
-    (rest : List ℕ) × Serves setting bytes before most_requests rest told after
-Ended end.ReadFault setting bytes left before told after =
+-- the table of ends: which requests the bytes of a link are, of which some are left, and what happens behind their
+-- turns. Closed: a refusal is written where the bytes end in one. Cut: nothing. Limit: nothing, and more bytes may
+-- follow. ReadFault: the requests are those that lie whole in the bytes that were given. WriteFault: a part of what
+-- is next is written. Memory: a 500 is written
+abbrev pub Ended : End → Setting → List ℕ → Option (List ℕ) → List RequestData → List Event → Type 0
+Ended end.Closed setting bytes left requests tail =
+    (ending : Ending) × (ending ≢ cut) × Splits bytes requests ending × (tail ≡ refusal_at ending)
+Ended end.Cut setting bytes left requests tail = Splits bytes requests cut × (tail ≡ [])
+Ended end.Limit setting bytes left requests tail = (rest : List ℕ) × BeginWith bytes requests rest × (tail ≡ [])
+Ended end.ReadFault setting bytes left requests tail =
     (given : List ℕ) × (ending : Ending) × (Some bytes ≡ followed_by given left) × ((ending ≡ clean) ⊎ (ending ≡ cut))
-    × ServesAll setting given ending before told after
-Ended end.WriteFault setting bytes left before told after = BreaksOff setting bytes before told after
-Ended end.Memory setting bytes left before told after = RunsShort setting bytes left before told after
+    × Splits given requests ending × (tail ≡ [])
+Ended end.WriteFault setting bytes left requests tail =
+    (rest : List ℕ) × (events : List Event) × (whole : List ℕ) × (size : ℕ)
+    × BeginWith bytes requests rest × IsNext setting rest events whole × (tail ≡ events ++ wrote (take size whole) ∷ [])
+Ended end.Memory setting bytes left requests tail =
+    (rest : List ℕ) × (events : List Event)
+    × BeginWith bytes requests rest × RunsOutOfMemory setting rest events × (tail ≡ events ++ wrote memory_reply ∷ [])
+
+-- memory ran out before a byte was read, and nothing happened
+abbrev pub IsIdle : End → List ℕ → Option (List ℕ) → List RequestData → List Event → Type 0
+IsIdle ended bytes left requests tail =
+    (ended ≡ end.Memory) × (requests ≡ []) × (tail ≡ []) × (left ≡ Some bytes)
+
+-- as many requests as a connection may bring had their turns, or fewer left it open
+abbrev pub IsWithin : End → List RequestData → Type 0
+IsWithin ended requests =
+    ((ended ≡ end.Limit) × (length requests ≡ most_requests))
+    ⊎ ((ended ≢ end.Limit) × (length (open_ones requests) < most_requests))
+
+-- ---- the whole connection
+
+-- what is known of an office, and the bytes that a link has left and out, where it tells them
+pub record State : Type 0 where
+  pub known : Known
+  pub left : Option (List ℕ)
+  pub out : Option (List ℕ)
+
+-- all of this at once
+abbrev pub state : Known → Option (List ℕ) → Option (List ℕ) → State
+state known left out = record { known = known; left = left; out = out }
+
+-- an office and a link came from one state to another by events of which this holds, whose bytes are out
+abbrev pub Comes : Setting → (List Event → Type 0) → State → State → Type 0
+Comes setting P before after =
+    Emits setting.alone (λ events. (after.out ≡ extended before.out (bytes_in events)) × P events)
+    before.known after.known
+
+-- events serve these bytes to this end, of which some are left: the requests that the bytes are had their turns, and
+-- then came what the end says
+pub record IsServed (ended : End) (setting : Setting) (bytes : List ℕ) (left : Option (List ℕ)) (events : List Event)
+    : Type 0 where
+  pub exchanges : List Exchange
+  pub tail : List Event
+  pub whole : events ≡ trace_of exchanges ++ tail
+  pub turns : All (IsTurn setting) exchanges
+  pub ends : Ended ended setting bytes left (requests_of exchanges) tail
+      ⊎ IsIdle ended bytes left (requests_of exchanges) tail
+  pub within : IsWithin ended (requests_of exchanges)
+
+-- a connection is served to this end, where its link tells its bytes; and each walk along the edges that were answered
+-- reaches the document in the book at exit
+abbrev pub Serves : End → Setting → State → State → Type 0
+Serves ended setting before after =
+    IfSome before.left (λ bytes. Comes setting
+    (λ events. (served : IsServed ended setting bytes after.left events)
+    × WalksReachDocuments setting.side served.exchanges after.known.seen)
+    before after)

@@ -1,82 +1,142 @@
--- What the next request does to a connection: it goes on, or it ends.
-use Rattle.std.specs.Prelude.{◌≡◌, ◌≢◌, ◌⊎◌, ℕ, true, false, List, [], take, Option, Some, IsSome}
+-- What one request more does to a connection: the words of the calls inside.
+use Rattle.std.specs.Prelude.{◌≡◌, ◌≢◌, ◌⊎◌, ℕ, Bool, true, false, List, [], ◌∷◌, ◌++◌, length, take, All, Option, Some, None, IfSome, IsSome, Result}
 use Rattle.alto_book.specs.Book.{Book}
-use Rattle.alto_http.specs.Link.{extended, followed_by}
+use Rattle.alto_book.specs.declared.command.Receipt.{Receipt}
+use Rattle.alto_book.specs.declared.fault.EditFault.{EditFault}
+use Rattle.alto_http.specs.Link.{extended, one_more}
 use Rattle.alto_http.specs.Request.{RequestData}
-use Rattle.alto_http.specs.Splits.{Begins, IsUnfinished, Ending, cut, Ends}
+use Rattle.alto_http.specs.Splits.{Begins}
 use Rattle.alto_http.specs.declared.fault.HeadFault.{HeadFault}
 use Rattle.alto_http.specs.declared.fault.HeadFault.TheVariants as head
+use Rattle.alto_answers.specs.Answers.{AnswersTo}
+use Rattle.alto_answers.specs.declared.outcome.Answer.{Answer}
+use Rattle.alto_answers.specs.declared.outcome.Answer.TheVariants as answer
+use Rattle.alto_answers.specs.declared.route.Side.{Side}
+use Rattle.alto_replies.specs.Replies.{edit_reply, head_status, too_early}
+use Rattle.alto_replies.specs.Reply.{ReplyData, bytes_of, memory_reply}
 use Rattle.alto_serve.specs.declared.end.End.{End}
 use Rattle.alto_serve.specs.declared.end.End.TheVariants as end
-use Rattle.alto_replies.specs.Replies.{head_status}
-use Rattle.alto_replies.specs.Reply.{memory_reply}
-use Rattle.alto_serve.specs.Told.{Told, nothing, only_written, both, Account, account_after}
-use Rattle.alto_serve.specs.Turns.{IsBegun, Setting, TakesTurn}
-use Rattle.alto_serve.specs.Connections.{Serves, WantsMemory, IsNext, cut_off, last_words, refusal_bytes}
+use Rattle.alto_serve.specs.Connections.{BeginWith, Comes, Ended, IsTurn, State, open_ones, refusal_bytes, requests_of, trace_of}
+use Rattle.alto_serve.specs.Events.{Event, wrote, Submits}
+use Rattle.alto_serve.specs.Turns.{IsMoment, Reaches, Setting, Stage, TakesTurn, looks_next, has_answer, sees, submits}
+use Rattle.alto_serve.specs.Walks.{Exchange}
 
--- the next request is replied to, and the connection goes on behind it
-pub record GoesOn
-    (setting : Setting) (rest : List ℕ) (left : Option (List ℕ)) (before : Book) (told : Told) (after : Book)
+-- ---- in a turn
+
+-- whether a request stays pending: its answer is the next edge
+abbrev pub is_pending : Answer → Bool
+is_pending (answer.Hold of i j) = true
+is_pending (answer.Reply reply) = false
+is_pending (answer.Edit import) = false
+
+-- a turn has looked at this book, where its request is answered so, and doesn't wait any more
+pub record HasSettled
+    (side : Side) (request : RequestData) (turns : ℕ) (book : Book) (met : Answer) (events : List Event)
     : Type 0 where
-  pub request : RequestData
-  pub behind : List ℕ
-  pub begins : Begins rest request behind
-  pub stays : request.close ≡ false
-  pub replied : TakesTurn setting request before told after
-  pub leaves : left ≡ Some behind
+  pub left : ℕ
+  pub reached : Reaches side request (looks_next turns) events (sees left book)
+  pub answered : AnswersTo request book side met
+  pub last : (is_pending met ≡ false) ⊎ (left ≡ 0)
 
--- the connection ends where the rest of its bytes begins
-abbrev pub Finishes : End → Setting → List ℕ → Option (List ℕ) → Book → Told → Book → Type 0
-Finishes end.Closed setting rest left before told after =
-    ((ending : Ending) × Ends rest ending × (ending ≢ cut)
-    × (told ≡ only_written (last_words ending)) × (after ≡ before))
-    ⊎ ((request : RequestData) × (behind : List ℕ) × Begins rest request behind × (request.close ≡ true)
-    × TakesTurn setting request before told after)
-Finishes end.Cut setting rest left before told after = Ends rest cut × (told ≡ nothing) × (after ≡ before)
-Finishes end.Limit setting rest left before told after = ⊥
-Finishes end.ReadFault setting rest left before told after =
-    (given : List ℕ) × (Some rest ≡ followed_by given left) × IsUnfinished given × (told ≡ nothing) × (after ≡ before)
-Finishes end.WriteFault setting rest left before told after =
-    (whole : Told) × (size : ℕ) × IsNext setting rest before whole after × (told ≡ cut_off size whole)
-Finishes end.Memory setting rest left before told after =
-    (begun : Told) × WantsMemory setting rest before begun after × (told ≡ both begun (only_written memory_reply))
+-- a stage with looks and waits alone before it
+abbrev pub IsEarly : Stage → Type 0
+IsEarly (looks_next left) = Unit {0}
+IsEarly (sees left book) = Unit {0}
+IsEarly (submits import) = ⊥
+IsEarly (has_answer moment decided) = ⊥
 
--- a connection ends with the answer to a request
-abbrev pub Responds : End → Setting → RequestData → Book → Told → Book → Type 0
-Responds end.Closed setting request before told after =
-    (request.close ≡ true) × TakesTurn setting request before told after
-Responds end.WriteFault setting request before told after =
-    (whole : Told) × (size : ℕ) × (told ≡ cut_off size whole)
-    × (TakesTurn setting request before whole after
-    ⊎ ((begun : Told) × IsBegun setting request before begun after × (whole ≡ both begun (only_written memory_reply))))
-Responds end.Memory setting request before told after =
-    (begun : Told) × IsBegun setting request before begun after × (told ≡ both begun (only_written memory_reply))
-Responds end.Cut setting request before told after = ⊥
-Responds end.ReadFault setting request before told after = ⊥
-Responds end.Limit setting request before told after = ⊥
+-- a turn has come to such a stage
+abbrev pub IsWaiting : Side → RequestData → ℕ → List Event → Type 0
+IsWaiting side request turns events =
+    (stage : Stage) × Reaches side request (looks_next turns) events stage × IsEarly stage
+
+-- an answer comes to its reply by these events: a reply is that reply; the next edge comes too early; an import is
+-- answered, with a timestamp of the clock
+abbrev pub Concludes : Option ℕ → Answer → List Event → ReplyData → Type 0
+Concludes time (answer.Reply reply) events given = (events ≡ []) × (given ≡ reply)
+Concludes time (answer.Hold of i j) events given = (events ≡ []) × (given ≡ too_early i)
+Concludes time (answer.Edit import) events given =
+    (moment : ℕ) × (decided : Result Receipt EditFault) × IsMoment time moment × Submits import moment decided events
+    × (given ≡ edit_reply decided)
+
+-- it comes to some reply
+abbrev pub IsConcluded : Option ℕ → Answer → List Event → Type 0
+IsConcluded time met events = (reply : ReplyData) × Concludes time met events reply
+
+-- a request has its turn, which leads to a reply of these bytes
+abbrev pub RepliesWith : Setting → RequestData → List ℕ → List Event → Type 0
+RepliesWith setting request bytes events =
+    (reply : ReplyData) × (bytes ≡ bytes_of reply request.close) × TakesTurn setting request events reply
+
+-- ---- in a connection
+
+-- a request has its turn, and its reply is written
+abbrev pub HasReply : Setting → RequestData → List Event → Type 0
+HasReply setting request events =
+    (turn : List Event) × (reply : ReplyData) × TakesTurn setting request turn reply
+    × (events ≡ turn ++ wrote (bytes_of reply request.close) ∷ [])
+
+-- the bytes that are left begin with a request that has its turn and doesn't close, and the rest is left
+abbrev pub GoesOn : Setting → List ℕ → State → List Event → Type 0
+GoesOn setting rest after events =
+    (request : RequestData) × (behind : List ℕ) × Begins rest request behind × (request.close ≡ false)
+    × (after.left ≡ Some behind) × HasReply setting request events
+
+-- the connection ends where the rest of its bytes begins, with the turn of a request that closes at most
+pub record Finishes (ended : End) (setting : Setting) (rest : List ℕ) (after : State) (events : List Event)
+    : Type 0 where
+  pub exchanges : List Exchange
+  pub tail : List Event
+  pub closing : open_ones (requests_of exchanges) ≡ []
+  pub going : ended ≢ end.Limit
+  pub whole : events ≡ trace_of exchanges ++ tail
+  pub turns : All (IsTurn setting) exchanges
+  pub ends : Ended ended setting rest after.left (requests_of exchanges) tail
+
+-- `count` requests had their turns, and the rest of the bytes is left
+pub record HasServed (setting : Setting) (bytes : List ℕ) (count : ℕ) (after : State) (events : List Event)
+    : Type 0 where
+  pub exchanges : List Exchange
+  pub rest : List ℕ
+  pub leaves : after.left ≡ Some rest
+  pub counted : length exchanges ≡ count
+  pub begins : BeginWith bytes (requests_of exchanges) rest
+  pub turns : All (IsTurn setting) exchanges
+  pub whole : events ≡ trace_of exchanges
+
+-- where the link tells its bytes, this became of them
+abbrev pub Becomes : Setting → (List ℕ → State → List Event → Type 0) → State → State → Type 0
+Becomes setting P before after = IfSome before.left (λ bytes. Comes setting (P bytes after) before after)
+
+-- ---- what is written without a request
 
 -- so much was written of which this holds, where a link tells what is out
 abbrev pub Writes : (List ℕ → Type 0) → Option (List ℕ) → Option (List ℕ) → Type 0
 Writes P out later = (written : List ℕ) × (later ≡ extended out written) × P written
 
--- a connection ends with what is told of bytes that brought no request
+-- memory may run out where bytes brought no request: while they are read, or while the refusal of a head is made
+abbrev pub MayRunOut : HeadFault → Type 0
+MayRunOut fault = (fault ≡ head.Memory) ⊎ IsSome (head_status fault)
+
+-- a connection ends with what is written of bytes that brought no request
 abbrev pub Refuses : End → HeadFault → List ℕ → Type 0
 Refuses end.Closed fault written = IsSome (head_status fault) × (written ≡ refusal_bytes (head_status fault))
 Refuses end.WriteFault fault written =
     (whole : List ℕ) × (size : ℕ) × (written ≡ take size whole)
-    × ((IsSome (head_status fault) × (whole ≡ refusal_bytes (head_status fault))) ⊎ (whole ≡ memory_reply))
-Refuses end.Memory fault written = written ≡ memory_reply
+    × ((IsSome (head_status fault) × (whole ≡ refusal_bytes (head_status fault)))
+    ⊎ (MayRunOut fault × (whole ≡ memory_reply)))
+Refuses end.Memory fault written = MayRunOut fault × (written ≡ memory_reply)
 Refuses end.Cut fault written = (fault ≡ head.Cut) × (written ≡ [])
 Refuses end.ReadFault fault written = (fault ≡ head.ReadFault) × (written ≡ [])
 Refuses end.Limit fault written = ⊥
 
--- a connection ends with the reply to want of memory, or inside it
-abbrev pub TellsMemory : End → List ℕ → Type 0
-TellsMemory end.Memory written = written ≡ memory_reply
-TellsMemory end.WriteFault written = (size : ℕ) × (written ≡ take size memory_reply)
-TellsMemory _ written = ⊥
+-- a connection ends with the reply to out of memory, or inside it
+abbrev pub EndsOutOfMemory : End → List ℕ → Type 0
+EndsOutOfMemory end.Memory written = written ≡ memory_reply
+EndsOutOfMemory end.WriteFault written = (size : ℕ) × (written ≡ take size memory_reply)
+EndsOutOfMemory _ written = ⊥
 
--- a connection ends with the refusal of this status, or inside it, or for want of memory
+-- a connection ends with the refusal of this status, or inside it, or out of memory
 abbrev pub RefusesWith : End → ℕ → List ℕ → Type 0
 RefusesWith end.Closed status written = written ≡ refusal_bytes (Some status)
 RefusesWith end.WriteFault status written =
@@ -85,12 +145,23 @@ RefusesWith end.WriteFault status written =
 RefusesWith end.Memory status written = written ≡ memory_reply
 RefusesWith _ status written = ⊥
 
--- what a connection has come to before its next request
-pub record HasServed
-    (setting : Setting) (bytes : List ℕ) (before : Book) (count : ℕ) (left : Option (List ℕ)) (first now : Account)
-    (after : Book) : Type 0 where
-  pub rest : List ℕ
-  pub told : Told
-  pub leaves : left ≡ Some rest
-  pub counted : now ≡ account_after first told
-  pub serves : Serves setting bytes before count rest told after
+-- ---- counts of faults
+
+-- the count of failed reads when a connection has ended: one more where a read's fault ended it
+abbrev pub reads_at : End → ℕ → ℕ
+reads_at end.ReadFault n = one_more n
+reads_at ended n = n
+
+-- the same of failed writes
+abbrev pub writes_at : End → ℕ → ℕ
+writes_at end.WriteFault n = one_more n
+writes_at ended n = n
+
+-- the same where a connection may go on
+abbrev pub reads_so_far : Option End → ℕ → ℕ
+reads_so_far None n = n
+reads_so_far (Some ended) n = reads_at ended n
+
+abbrev pub writes_so_far : Option End → ℕ → ℕ
+writes_so_far None n = n
+writes_so_far (Some ended) n = writes_at ended n

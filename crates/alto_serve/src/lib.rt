@@ -10,7 +10,6 @@
 
 mod clock;
 mod end;
-mod laws;
 mod office;
 mod refuse;
 mod serve;
@@ -21,7 +20,6 @@ pub use alto_answers::{Answer, Place, Routes, Side, answer, edge_number};
 pub use alto_replies::{Reply, reply_bytes};
 pub use clock::{Clock, FixedClock};
 pub use end::End;
-pub use laws::{connections_lead_on, ends_lead_on};
 pub use office::{Looks, Office};
 pub use serve::serve_conn;
 pub use solo::Solo;

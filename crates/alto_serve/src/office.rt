@@ -1,18 +1,15 @@
-ghost use Rattle.std.specs.Prelude.{◌≡◌, ◌≢◌, ℕ, Bool, Err, IfOk, OnOk, OnErr, All};
+ghost use Rattle.std.specs.Prelude.{◌≡◌, ◌≢◌, Bool, Err, IfOk, OnOk, OnErr, All};
 ghost use Rattle.std.specs.Arc.{arc_value};
 ghost use Rattle.alto_edits.specs.Edits.{IsEdit};
-ghost use Rattle.alto_book.specs.Book.{Book};
-ghost use Rattle.alto_book.specs.Legal.{IsLegal};
 ghost use Rattle.alto_desk.specs.Front.{StandsFor};
-ghost use Rattle.alto_serve.specs.Looks.{IsAnswered, IsLook};
-ghost use Rattle.alto_serve.specs.Told.{Counts, Tally, MayBeLook, MayBeEditLook, tally_after, one_look, edit_look, one_wait};
+ghost use Rattle.alto_serve.specs.Events.{Emits, IsLook, IsSubmitted, Known, OneLook, OneWait, PrefixOf, Submits};
 
 use alto_desk::{Command, EditFault, Front, Receipt};
 use alto_rows::RowStore;
 use std::alloc::{AllocError, Global};
 use std::sync::Arc;
 
-/// What a connection looks at: versions, each of a book that extends those seen before.
+/// What a connection looks at: versions, each of a legal book that extends those seen before.
 pub trait Looks {
     /// How the versions keep their rows.
     type Rows: RowStore;
@@ -20,37 +17,32 @@ pub trait Looks {
     /// Whether nobody else has imports accepted into the book.
     ghost alone: { Bool };
 
-    /// The book that was seen last.
-    ghost seen: { Self → Book };
+    /// What is known of it: the book that was seen last, and its counters.
+    ghost known: { Self → Known };
 
-    /// How often it was looked and waited, how many faults of records were counted, and the numbers of the books that
-    /// were looked at and those that were waited past, where they are told.
-    ghost tally: { Self → Tally };
-
-    /// Looks: gives the version of a book that is seen from then on.
+    /// Looks: gives the version of a book that is seen from then on. Out of memory, it has looked or not.
     fn front(&mut self, alloc: Global) -> Result<Arc<Front<Self::Rows>>, AllocError>
-        ensures stands { IfOk result (λ front. StandsFor (arc_value front) (seen self.new)) }
-        ensures legal { OnOk result (IsLegal (seen self.new)) }
-        ensures book { IsLook alone (seen self.old) (seen self.new) }
-        ensures tally { OnOk result (tally self.new ≡ tally_after (tally self.old) (one_look (seen self.new))) }
-        ensures tally_err { OnErr result (Counts MayBeLook (tally self.old) (tally self.new)) };
+        ensures stands { IfOk result (λ front. StandsFor (arc_value front) (known self.new).seen) }
+        ensures looks { OnOk result (Emits alone (OneLook (known self.new).seen) (known self.old) (known self.new)) }
+        ensures lost { OnErr result
+            (Emits alone (PrefixOf (OneLook (known self.new).seen)) (known self.old) (known self.new)) };
 }
 
 /// What a connection is served through: it looks at versions, has imports accepted, and waits for the next version.
 pub trait Office: Looks {
-    /// Has an import accepted or refused, at a book that extends the one seen before. `Keeper` comes only where a fault
-    /// of the records was counted in the call. Where memory is wanting the import is accepted whole or not at all.
+    /// Has an import accepted or refused, at a book that extends the one seen before. `Keeper` comes only where a
+    /// fault of the records was counted in the call. Out of memory, the import is accepted whole or not at all, and a
+    /// book that nobody else changes stays.
     fn edit(&mut self, alloc: Global, command: Command, moment: u64) -> Result<Receipt, EditFault>
         requires { All IsEdit command.edits }
         ensures answered { result ≢ Err EditFault.Memory
-            → (faults : ℕ) × (Self.tally self.new ≡ tally_after (Self.tally self.old) (edit_look faults))
-            × IsAnswered Self.alone (Self.seen self.old) command moment faults result (Self.seen self.new) }
+            → Emits Self.alone (Submits command moment result) (Self.known self.old) (Self.known self.new) }
         ensures lost { result ≡ Err EditFault.Memory
-            → Counts MayBeEditLook (Self.tally self.old) (Self.tally self.new)
-            × IsLook Self.alone (Self.seen self.old) (Self.seen self.new) };
+            → Emits Self.alone (PrefixOf (IsSubmitted command moment)) (Self.known self.old) (Self.known self.new) }
+        ensures stays { result ≡ Err EditFault.Memory
+            → IsLook Self.alone (Self.known self.old).seen (Self.known self.new).seen };
 
     /// Waits until there may be more batches than this number. It may end at any time.
     fn wait(&mut self, known: u64)
-        ensures book { Self.seen self.new ≡ Self.seen self.old }
-        ensures tally { Self.tally self.new ≡ tally_after (Self.tally self.old) (one_wait known) };
+        ensures { Emits Self.alone (OneWait known) (Self.known self.old) (Self.known self.new) };
 }

@@ -2,21 +2,20 @@ ghost use Rattle.std.specs.Prelude.{◌≡◌, ℕ, true, Err, IfOk};
 ghost use Rattle.alto_http.specs.Intake.{reads_after};
 ghost use Rattle.alto_replies.specs.Replies.{status_alone};
 ghost use Rattle.alto_replies.specs.Reply.{IsReply, bytes_of};
-ghost use Rattle.alto_serve.specs.Steps.{Refuses, RefusesWith, TellsMemory, Writes};
-ghost use Rattle.alto_serve.specs.Turns.{reads_at, writes_at};
+ghost use Rattle.alto_serve.specs.Steps.{Refuses, RefusesWith, EndsOutOfMemory, Writes, reads_at, writes_at};
 
 use crate::end::End;
 use alto_http::{HeadFault, Link, write_all};
 use alto_replies::{head_status, reply_bytes, status_alone};
 use std::alloc::{AllocError, Global};
 
-/// The reply to want of memory, which is written without taking any.
+/// The reply where memory ran out, which is written without taking any.
 const MEMORY_REPLY: &[u8] =
     b"HTTP/1.1 500 Internal Server Error\r\nContent-Length: 0\r\nConnection: close\r\n\r\n";
 
 /// Answers bytes that brought no request, and ends the connection: its end is a read's fault exactly where that is why.
 pub(crate) fn refuse<L: Link>(alloc: Global, link: &mut L, fault: HeadFault) -> End
-    ensures told { Writes (Refuses result fault) (L.out link.old) (L.out link.new) }
+    ensures written { Writes (Refuses result fault) (L.out link.old) (L.out link.new) }
     ensures why { (n : ℕ) → reads_at result n ≡ reads_after {T = ℕ} (Err fault) n }
     ensures writes { L.failed_writes link.new ≡ writes_at result (L.failed_writes link.old) }
     ensures reads { L.failed_reads link.new ≡ L.failed_reads link.old }
@@ -30,7 +29,7 @@ pub(crate) fn refuse<L: Link>(alloc: Global, link: &mut L, fault: HeadFault) -> 
 
 /// The end of a connection whose bytes brought no request and have no status.
 fn unanswered<L: Link>(link: &mut L, fault: HeadFault) -> End
-    ensures told { Writes (Refuses result fault) (L.out link.old) (L.out link.new) }
+    ensures written { Writes (Refuses result fault) (L.out link.old) (L.out link.new) }
     ensures why { (n : ℕ) → reads_at result n ≡ reads_after {T = ℕ} (Err fault) n }
     ensures writes { L.failed_writes link.new ≡ writes_at result (L.failed_writes link.old) }
     ensures reads { L.failed_reads link.new ≡ L.failed_reads link.old }
@@ -46,7 +45,7 @@ fn unanswered<L: Link>(link: &mut L, fault: HeadFault) -> End
 /// Answers a status and closes.
 fn refuse_with<L: Link>(alloc: Global, link: &mut L, status: u16) -> End
     requires { IsReply (status_alone status) }
-    ensures told { Writes (RefusesWith result status) (L.out link.old) (L.out link.new) }
+    ensures written { Writes (RefusesWith result status) (L.out link.old) (L.out link.new) }
     ensures no_read { (n : ℕ) → reads_at result n ≡ n }
     ensures writes { L.failed_writes link.new ≡ writes_at result (L.failed_writes link.old) }
     ensures reads { L.failed_reads link.new ≡ L.failed_reads link.old }
@@ -70,9 +69,9 @@ fn refusal_bytes(alloc: Global, status: u16) -> Result<Vec<u8>, AllocError>
     reply_bytes(alloc, &reply, true)
 }
 
-/// Answers want of memory, without taking any, and ends the connection.
+/// Answers that memory ran out, without taking any, and ends the connection.
 pub(crate) fn out_of_memory<L: Link>(link: &mut L) -> End
-    ensures told { Writes (TellsMemory result) (L.out link.old) (L.out link.new) }
+    ensures written { Writes (EndsOutOfMemory result) (L.out link.old) (L.out link.new) }
     ensures writes { L.failed_writes link.new ≡ writes_at result (L.failed_writes link.old) }
     ensures reads { L.failed_reads link.new ≡ L.failed_reads link.old }
     ensures left { L.left link.new ≡ L.left link.old }

@@ -1,10 +1,11 @@
-ghost use Rattle.std.specs.Prelude.{◌≡◌, false, None, IfSome};
+ghost use Rattle.std.specs.Prelude.{◌≡◌, false, None, IfSome, List, ℕ};
 ghost use Rattle.alto_http.specs.Link.{followed_by};
-ghost use Rattle.alto_book.specs.Book.{Extends};
-ghost use Rattle.alto_serve.specs.Connections.{Ended};
-ghost use Rattle.alto_serve.specs.Steps.{GoesOn, Finishes, Responds};
-ghost use Rattle.alto_serve.specs.Told.{Brings, account};
-ghost use Rattle.alto_serve.specs.Turns.{TakesTurn, setting_of, reads_at, writes_at, reads_so_far, writes_so_far};
+ghost use Rattle.alto_http.specs.Splits.{Begins};
+ghost use Rattle.alto_serve.specs.Connections.{Comes, Serves, state};
+ghost use Rattle.alto_serve.specs.Events.{IsGrown};
+ghost use Rattle.alto_serve.specs.Steps.{Becomes, Finishes, GoesOn, HasReply};
+ghost use Rattle.alto_serve.specs.Steps.{reads_at, reads_so_far, writes_at, writes_so_far};
+ghost use Rattle.alto_serve.specs.Turns.{setting_of};
 
 use crate::clock::Clock;
 use crate::end::End;
@@ -19,7 +20,7 @@ use std::alloc::Global;
 const MOST_REQUESTS: u32 = 1_000_000;
 
 /// Serves a connection to its end: reads requests, answers each at the version that the office has then, and writes the
-/// replies. An awaited edge is waited for, `turns` times at most. How it ended tells what became of the requests that
+/// replies. The next edge is waited for, `turns` times at most. How it ended tells what became of the requests that
 /// its bytes are, what was written, and how often the office was looked at and waited.
 pub fn serve_conn<F: Office, L: Link, C: Clock>(
     alloc: Global,
@@ -29,15 +30,15 @@ pub fn serve_conn<F: Office, L: Link, C: Clock>(
     side: Side,
     turns: u32,
 ) -> End
-    // Where the link tells its bytes, they are answered in turn, up to this end.
-    ensures served { IfSome (L.left link.old) (λ bytes. Brings
-        (λ told. Ended result (setting_of side (C.tells clock.now) F.alone turns) bytes (L.left link.new)
-        (F.seen office.old) told (F.seen office.new))
-        (account (L.out link.old) (F.tally office.old)) (account (L.out link.new) (F.tally office.new))) }
+    // Where the link tells its bytes, they are answered in turn, up to this end, and each walk along the edges that
+    // were answered reaches the document.
+    ensures served { Serves result (setting_of side (C.tells clock.now) F.alone turns)
+        (state (F.known office.old) (L.left link.old) (L.out link.old))
+        (state (F.known office.new) (L.left link.new) (L.out link.new)) }
 
     ensures reads { L.failed_reads link.new ≡ reads_at result (L.failed_reads link.old) }
     ensures writes { L.failed_writes link.new ≡ writes_at result (L.failed_writes link.old) }
-    ensures book { Extends (F.seen office.new) (F.seen office.old) }
+    ensures book { IsGrown (F.known office.new).seen (F.known office.old).seen }
 {
     let Ok(routes) = Routes::new(alloc, side) else {
         return End::Memory;
@@ -63,18 +64,18 @@ fn serve_next<F: Office, L: Link, C: Clock>(
     clock: &C,
     turns: u32,
 ) -> Option<End>
-    ensures on { result ≡ None → IfSome (followed_by intake.old (L.left link.old)) (λ rest. Brings
-        (λ told. GoesOn (setting_of routes.now (C.tells clock.now) F.alone turns) rest
-        (followed_by intake.new (L.left link.new)) (F.seen office.old) told (F.seen office.new))
-        (account (L.out link.old) (F.tally office.old)) (account (L.out link.new) (F.tally office.new))) }
-    ensures ended { IfSome result (λ end. IfSome (followed_by intake.old (L.left link.old)) (λ rest. Brings
-        (λ told. Finishes end (setting_of routes.now (C.tells clock.now) F.alone turns) rest (L.left link.new)
-        (F.seen office.old) told (F.seen office.new))
-        (account (L.out link.old) (F.tally office.old)) (account (L.out link.new) (F.tally office.new)))) }
+    ensures on { result ≡ None → let setting = setting_of routes.now (C.tells clock.now) F.alone turns in
+        Becomes setting (GoesOn setting)
+        (state (F.known office.old) (followed_by intake.old (L.left link.old)) (L.out link.old))
+        (state (F.known office.new) (followed_by intake.new (L.left link.new)) (L.out link.new)) }
+    ensures ended { IfSome result (λ end. let setting = setting_of routes.now (C.tells clock.now) F.alone turns in
+        Becomes setting (Finishes end setting)
+        (state (F.known office.old) (followed_by intake.old (L.left link.old)) (L.out link.old))
+        (state (F.known office.new) (L.left link.new) (L.out link.new))) }
 
     ensures reads { L.failed_reads link.new ≡ reads_so_far result (L.failed_reads link.old) }
     ensures writes { L.failed_writes link.new ≡ writes_so_far result (L.failed_writes link.old) }
-    ensures book { Extends (F.seen office.new) (F.seen office.old) }
+    ensures book { IsGrown (F.known office.new).seen (F.known office.old).seen }
 {
     match read_request(alloc, intake, link) {
         Ok(Some(request)) => respond(alloc, routes, office, link, clock, &request, turns),
@@ -94,19 +95,20 @@ fn respond<F: Office, L: Link, C: Clock>(
     turns: u32,
 ) -> Option<End>
     ensures stays { result ≡ None → request.now.close ≡ false }
-    ensures on { result ≡ None → Brings
-        (λ told. TakesTurn (setting_of routes.now (C.tells clock.now) F.alone turns) request.now
-        (F.seen office.old) told (F.seen office.new))
-        (account (L.out link.old) (F.tally office.old)) (account (L.out link.new) (F.tally office.new)) }
-    ensures ended { IfSome result (λ end. Brings
-        (λ told. Responds end (setting_of routes.now (C.tells clock.now) F.alone turns) request.now
-        (F.seen office.old) told (F.seen office.new))
-        (account (L.out link.old) (F.tally office.old)) (account (L.out link.new) (F.tally office.new))) }
+    ensures on { result ≡ None → let setting = setting_of routes.now (C.tells clock.now) F.alone turns in
+        Comes setting (HasReply setting request.now)
+        (state (F.known office.old) (L.left link.old) (L.out link.old))
+        (state (F.known office.new) (L.left link.new) (L.out link.new)) }
+    ensures ended { IfSome result (λ end. let setting = setting_of routes.now (C.tells clock.now) F.alone turns in
+        let after = state (F.known office.new) (L.left link.new) (L.out link.new) in
+        (rest behind : List ℕ) → Begins rest request.now behind
+        → Comes setting (Finishes end setting rest after)
+        (state (F.known office.old) (L.left link.old) (L.out link.old)) after) }
     ensures left { L.left link.new ≡ L.left link.old }
 
     ensures reads { L.failed_reads link.new ≡ reads_so_far result (L.failed_reads link.old) }
     ensures writes { L.failed_writes link.new ≡ writes_so_far result (L.failed_writes link.old) }
-    ensures book { Extends (F.seen office.new) (F.seen office.old) }
+    ensures book { IsGrown (F.known office.new).seen (F.known office.old).seen }
 {
     let Ok(bytes) = answered(alloc, routes, office, clock, request, turns) else {
         return Some(out_of_memory(link));

@@ -42,17 +42,20 @@ impl<R: RowStore> Solo<R> {
 }
 
 impl<R: RowStore> Looks for Solo<R> {
-    ghost use Rattle.std.specs.Prelude.{true, None};
-    ghost use Rattle.alto_serve.specs.Told.{Tally};
+    ghost use Rattle.std.specs.Prelude.{true, []};
 
     type Rows = R;
 
     ghost alone = { true };
 
-    ghost seen = { λ solo. solo.desk };
-
-    ghost tally = { λ solo.
-        record { looks = solo.looks; waits = solo.waits; faults = 0; numbers = None; waited = None } };
+    ghost known = { λ solo. record {
+      seen = solo.desk;
+      looks = solo.looks;
+      waits = solo.waits;
+      faults = 0;
+      numbers = [];
+      waited = [];
+    } };
 
     fn front(&mut self, _alloc: Global) -> Result<Arc<Front<R>>, AllocError> {
         let front = Arc::try_clone(self.desk.front())?;
@@ -63,6 +66,8 @@ impl<R: RowStore> Looks for Solo<R> {
 
 impl<R: RowStore> Office for Solo<R> {
     fn edit(&mut self, alloc: Global, command: Command, moment: u64) -> Result<Receipt, EditFault> {
+        // The version says that the book is legal, which the clauses need.
+        let _front = self.desk.front();
         self.looks = self.looks.saturating_add(1);
         self.desk.edit(alloc, command, moment)
     }

@@ -1,13 +1,13 @@
-//! The turn of one request: looks at the office, waits for an awaited edge, and has an import accepted.
-ghost use Rattle.std.specs.Prelude.{◌≡◌, ◌≢◌, ℕ, Bool, Option, Err, IfOk, OnOk, OnErr, All};
+//! The turn of one request: looks at the office, waits for the next edge, and has an import accepted.
+ghost use Rattle.std.specs.Prelude.{◌≡◌, ◌≢◌, ℕ, Err, IfOk, OnOk, OnErr, All};
 ghost use Rattle.alto_edits.specs.Edits.{IsEdit};
-ghost use Rattle.alto_book.specs.Book.{Extends, number_of};
+ghost use Rattle.alto_book.specs.Book.{number_of};
 ghost use Rattle.alto_book.specs.declared.fault.EditFault.TheVariants as fault;
 ghost use Rattle.alto_answers.specs.Answers.{AnswersTo, BringsEdits, HasBytes};
-ghost use Rattle.alto_serve.specs.Looks.{IsAnswered, IsLook, IsVainLook};
-ghost use Rattle.alto_replies.specs.Reply.{IsReply, bytes_of};
-ghost use Rattle.alto_serve.specs.Told.{Counts, MayBeEditLook, one_look, edit_look, tally_after};
-ghost use Rattle.alto_serve.specs.Turns.{Concludes, HasSettled, IsMoment, IsBegun, IsLost, TakesTurn, is_held, setting_of};
+ghost use Rattle.alto_replies.specs.Reply.{IsReply};
+ghost use Rattle.alto_serve.specs.Events.{Emits, IsSubmitted, OneLook, PrefixOf, Submits};
+ghost use Rattle.alto_serve.specs.Steps.{Concludes, HasSettled, IsConcluded, RepliesWith, IsWaiting, is_pending};
+ghost use Rattle.alto_serve.specs.Turns.{IsCutOff, IsMoment, TakesTurn, setting_of};
 
 use crate::clock::Clock;
 use crate::office::{Looks, Office};
@@ -33,15 +33,12 @@ pub(crate) fn answered<F: Office, C: Clock>(
     request: &Request,
     turns: u32,
 ) -> Result<Vec<u8>, AllocError>
-    ensures ok { IfOk result (λ bytes. Counts (λ told. (told.written ≡ bytes.items)
-        × TakesTurn (setting_of routes.now (C.tells clock.now) F.alone turns) request.now
-        (F.seen office.old) told (F.seen office.new))
-        (F.tally office.old) (F.tally office.new)) }
-    ensures book { Extends (F.seen office.new) (F.seen office.old) }
-    ensures err { OnErr result (Counts
-        (λ told. IsBegun (setting_of routes.now (C.tells clock.now) F.alone turns) request.now
-        (F.seen office.old) told (F.seen office.new))
-        (F.tally office.old) (F.tally office.new)) }
+    ensures ok { IfOk result (λ bytes. Emits F.alone
+        (RepliesWith (setting_of routes.now (C.tells clock.now) F.alone turns) request.now bytes.items)
+        (F.known office.old) (F.known office.new)) }
+    ensures err { OnErr result (Emits F.alone
+        (IsCutOff (setting_of routes.now (C.tells clock.now) F.alone turns) request.now)
+        (F.known office.old) (F.known office.new)) }
 {
     let reply = take_turn(alloc, routes, office, clock, request, turns)?;
     reply_bytes(alloc, &reply, request.close)
@@ -56,22 +53,19 @@ fn take_turn<F: Office, C: Clock>(
     request: &Request,
     turns: u32,
 ) -> Result<Reply, AllocError>
-    ensures ok { IfOk result (λ reply. Counts (λ told. (told.written ≡ bytes_of reply request.now.close)
-        × TakesTurn (setting_of routes.now (C.tells clock.now) F.alone turns) request.now
-        (F.seen office.old) told (F.seen office.new))
-        (F.tally office.old) (F.tally office.new)) }
-    ensures book { Extends (F.seen office.new) (F.seen office.old) }
+    ensures ok { IfOk result (λ reply. Emits F.alone
+        (λ events. TakesTurn (setting_of routes.now (C.tells clock.now) F.alone turns) request.now events reply)
+        (F.known office.old) (F.known office.new)) }
     ensures bytes { IfOk result IsReply }
-    ensures begun { Counts
-        (λ told. IsBegun (setting_of routes.now (C.tells clock.now) F.alone turns) request.now
-        (F.seen office.old) told (F.seen office.new))
-        (F.tally office.old) (F.tally office.new) }
+    ensures err { OnErr result (Emits F.alone
+        (IsCutOff (setting_of routes.now (C.tells clock.now) F.alone turns) request.now)
+        (F.known office.old) (F.known office.new)) }
 {
     let answer = settled(alloc, routes, office, request, turns)?;
     conclude(alloc, office, clock, answer)
 }
 
-/// What a request comes to in the end: an awaited edge is looked at again after each wait, `turns` times at most.
+/// What a request comes to in the end: the next edge is looked for again after each wait, `turns` times at most.
 fn settled<F: Office>(
     alloc: Global,
     routes: &Routes,
@@ -79,21 +73,17 @@ fn settled<F: Office>(
     request: &Request,
     turns: u32,
 ) -> Result<Answer, AllocError>
-    ensures ok { IfOk result (λ answer. (time : Option ℕ) → Counts
-        (HasSettled (setting_of routes.now time F.alone turns) request.now
-        (F.seen office.old) answer (F.seen office.new))
-        (F.tally office.old) (F.tally office.new)) }
+    ensures ok { IfOk result (λ answer. Emits F.alone
+        (HasSettled routes.now request.now turns (F.known office.new).seen answer)
+        (F.known office.old) (F.known office.new)) }
     ensures edits { IfOk result BringsEdits }
     ensures replies { IfOk result HasBytes }
-    ensures look { IsLook F.alone (F.seen office.old) (F.seen office.new) }
-    ensures err { OnErr result ((time : Option ℕ) → Counts
-        (λ told. IsBegun (setting_of routes.now time F.alone turns) request.now
-        (F.seen office.old) told (F.seen office.new))
-        (F.tally office.old) (F.tally office.new)) }
+    ensures err { OnErr result (Emits F.alone (PrefixOf (IsWaiting routes.now request.now turns))
+        (F.known office.old) (F.known office.new)) }
 {
     let mut look = look_at(alloc, routes, office, request)?;
     for _turn in 0..turns {
-        if !is_held(&look.answer) {
+        if !is_pending(&look.answer) {
             return Ok(look.answer);
         }
         office.wait(look.number);
@@ -102,9 +92,9 @@ fn settled<F: Office>(
     Ok(look.answer)
 }
 
-/// Whether an answer is an edge that is awaited.
-fn is_held(answer: &Answer) -> bool
-    ensures { result ≡ is_held answer.now }
+/// Whether a request stays pending: its answer is the next edge.
+fn is_pending(answer: &Answer) -> bool
+    ensures { result ≡ is_pending answer.now }
 {
     matches!(answer, Answer::Hold { .. })
 }
@@ -116,14 +106,14 @@ fn look_at<F: Office>(
     office: &mut F,
     request: &Request,
 ) -> Result<Look, AllocError>
-    ensures answer { IfOk result (λ look. AnswersTo request.now (F.seen office.new) routes.now look.answer) }
-    ensures number { IfOk result (λ look. look.number ≡ number_of (F.seen office.new)) }
+    ensures answer { IfOk result (λ look. AnswersTo request.now (F.known office.new).seen routes.now look.answer) }
+    ensures number { IfOk result (λ look. look.number ≡ number_of (F.known office.new).seen) }
     ensures edits { IfOk result (λ look. BringsEdits look.answer) }
     ensures replies { IfOk result (λ look. HasBytes look.answer) }
-    ensures book { IsLook F.alone (F.seen office.old) (F.seen office.new) }
-    ensures tally { OnOk result (F.tally office.new ≡ tally_after (F.tally office.old) (one_look (F.seen office.new))) }
-    ensures err { OnErr result (Counts (λ told. IsVainLook F.alone (F.seen office.old) told (F.seen office.new))
-        (F.tally office.old) (F.tally office.new)) }
+    ensures ok { OnOk result (Emits F.alone (OneLook (F.known office.new).seen)
+        (F.known office.old) (F.known office.new)) }
+    ensures err { OnErr result (Emits F.alone (PrefixOf (OneLook (F.known office.new).seen))
+        (F.known office.old) (F.known office.new)) }
 {
     let front = office.front(alloc)?;
     let answer = answer(alloc, routes, request, &*front)?;
@@ -133,8 +123,7 @@ fn look_at<F: Office>(
     })
 }
 
-/// The reply to an answer that stands: an import is accepted or refused, and an edge that is still awaited comes too
-/// early.
+/// The reply to an answer that isn't waited for: an import is accepted or refused, and the next edge comes too early.
 fn conclude<F: Office, C: Clock>(
     alloc: Global,
     office: &mut F,
@@ -143,14 +132,11 @@ fn conclude<F: Office, C: Clock>(
 ) -> Result<Reply, AllocError>
     requires edits { BringsEdits answer }
     requires replies { HasBytes answer }
-    ensures ok { IfOk result (λ reply. (closing : Bool) → Counts (λ told. (told.written ≡ bytes_of reply closing)
-        × Concludes F.alone (C.tells clock.now) closing answer (F.seen office.old) told (F.seen office.new))
-        (F.tally office.old) (F.tally office.new)) }
+    ensures ok { IfOk result (λ reply. Emits F.alone (λ events. Concludes (C.tells clock.now) answer events reply)
+        (F.known office.old) (F.known office.new)) }
     ensures bytes { IfOk result IsReply }
-    ensures book { Extends (F.seen office.new) (F.seen office.old) }
-    ensures lost { (closing : Bool) → Counts
-        (λ told. IsLost F.alone (C.tells clock.now) closing answer (F.seen office.old) told (F.seen office.new))
-        (F.tally office.old) (F.tally office.new) }
+    ensures err { OnErr result (Emits F.alone (PrefixOf (IsConcluded (C.tells clock.now) answer))
+        (F.known office.old) (F.known office.new)) }
 {
     match answer {
         Answer::Reply(reply) => Ok(reply),
@@ -162,7 +148,7 @@ fn conclude<F: Office, C: Clock>(
     }
 }
 
-/// What an import is told that comes now.
+/// What becomes of an import that comes now.
 fn edit<F: Office, C: Clock>(
     alloc: Global,
     office: &mut F,
@@ -170,12 +156,11 @@ fn edit<F: Office, C: Clock>(
     command: Command,
 ) -> Result<Result<Receipt, EditFault>, AllocError>
     requires { All IsEdit command.edits }
-    ensures told { IfOk result (λ outcome. (moment : ℕ) × (faults : ℕ) × IsMoment (C.tells clock.now) moment
-        × (F.tally office.new ≡ tally_after (F.tally office.old) (edit_look faults))
-        × IsAnswered F.alone (F.seen office.old) command moment faults outcome (F.seen office.new)) }
-    ensures known { IfOk result (λ outcome. outcome ≢ Err fault.Memory) }
-    ensures lost { OnErr result (Counts MayBeEditLook (F.tally office.old) (F.tally office.new)
-        × IsLook F.alone (F.seen office.old) (F.seen office.new)) }
+    ensures decided { IfOk result (λ outcome. (moment : ℕ) × IsMoment (C.tells clock.now) moment
+        × Emits F.alone (Submits command moment outcome) (F.known office.old) (F.known office.new)) }
+    ensures in_memory { IfOk result (λ outcome. outcome ≢ Err fault.Memory) }
+    ensures lost { OnErr result ((moment : ℕ) × IsMoment (C.tells clock.now) moment
+        × Emits F.alone (PrefixOf (IsSubmitted command moment)) (F.known office.old) (F.known office.new)) }
 {
     match office.edit(alloc, command, clock.now()) {
         Ok(receipt) => Ok(Ok(receipt)),
