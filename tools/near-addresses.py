@@ -1,5 +1,5 @@
 #!/usr/bin/env python3
-"""Writes crates/alto_addr/src/texts.rt: texts made from good addresses by dropping, doubling or replacing a character, and
+"""Writes crates/library_tests/src/near_addresses.rt: texts made from good addresses by dropping, doubling or replacing a character, and
 what Python's ipaddress says of each: the family and the number, or the length of the longest front that some ending makes an
 address."""
 import ipaddress

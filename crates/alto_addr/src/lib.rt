@@ -18,8 +18,3 @@ pub use laws::{
 };
 pub use prefix::{Prefix, holds, inside, print_prefix};
 pub use reading::{read_addr, read_prefix};
-
-#[cfg(test)]
-mod tests;
-#[cfg(test)]
-mod texts;

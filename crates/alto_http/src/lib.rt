@@ -17,8 +17,6 @@ mod read;
 mod receive;
 mod request;
 mod scan;
-#[cfg(test)]
-mod tests;
 mod write;
 
 pub use fault::HeadFault;

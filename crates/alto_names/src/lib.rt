@@ -6,8 +6,6 @@
 
 mod kind;
 mod label;
-#[cfg(test)]
-mod tests;
 
 pub use kind::{AneKind, EpochKind, ImportKind, Kind, MetricKind, NetKind, PidKind, PropKind};
 pub use label::{Label, NameFault};

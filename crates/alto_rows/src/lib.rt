@@ -24,10 +24,6 @@ mod prefixes;
 mod resource;
 mod span;
 mod store;
-#[cfg(test)]
-mod tests;
-#[cfg(test)]
-mod text_tests;
 mod value;
 mod walk;
 mod within;

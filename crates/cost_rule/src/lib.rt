@@ -9,8 +9,6 @@ mod fault;
 mod lists;
 mod read;
 mod stage;
-#[cfg(test)]
-mod tests;
 
 pub use constraint::{Constraint, Relation, holds};
 pub use fault::ConstraintFault;

@@ -34,8 +34,6 @@ mod laws;
 mod operation;
 mod records;
 mod table;
-#[cfg(test)]
-mod tests;
 mod value_kind;
 mod values;
 

@@ -7,8 +7,6 @@
 mod laws;
 mod merging;
 mod operations;
-#[cfg(test)]
-mod tests;
 
 pub use laws::{
     disjoint_patches_commute, merge_is_by_member, no_change, operations_read_back, order_stays,

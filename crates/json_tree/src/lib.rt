@@ -13,8 +13,6 @@ mod members;
 mod name;
 mod parsing;
 mod pointer;
-#[cfg(test)]
-mod tests;
 mod tree;
 mod writing;
 

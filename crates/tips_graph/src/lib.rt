@@ -20,8 +20,6 @@ mod keys;
 mod laws;
 mod status;
 mod step;
-#[cfg(test)]
-mod tests;
 
 pub use graph::Graph;
 pub use laws::{

@@ -1,4 +1,5 @@
-use crate::{OpsFault, PatchFault, apply, ops_tree, read_ops};
+//! `json_patch`: JSON Patch (RFC 6902).
+use json_patch::{OpsFault, PatchFault, apply, ops_tree, read_ops};
 use json_tree::{Tree, read, text};
 use std::alloc::{AllocError, Global};
 use std::test::Fail;

@@ -1,6 +1,5 @@
-mod operations;
-
-use crate::merge;
+//! `json_patch`: JSON Merge Patch (RFC 7396).
+use json_patch::merge;
 use json_tree::{Tree, read, text};
 use std::alloc::{AllocError, Global};
 use std::test::Fail;

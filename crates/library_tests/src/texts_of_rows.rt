@@ -1,5 +1,6 @@
-use crate::{print_entity, print_resource, read_entity, read_resource};
+//! `alto_rows`: ids and entities.
 use alto_names::NetName;
+use alto_rows::{print_entity, print_resource, read_entity, read_resource};
 use json_tree::Name;
 use std::alloc::{AllocError, Global};
 use std::test::Fail;

@@ -1,4 +1,5 @@
-use crate::{Name, PointerFault, print_pointer, read_pointer};
+//! `json_tree`: pointers.
+use json_tree::{Name, PointerFault, print_pointer, read_pointer};
 use std::alloc::{AllocError, Global};
 use std::test::Fail;
 

@@ -1,7 +1,6 @@
-use crate::texts::TEXTS;
-use crate::{
-    Addr, AddrFault, Prefix, holds, inside, print_addr, print_prefix, read_addr, read_prefix,
-};
+//! `alto_addr`.
+use crate::near_addresses::TEXTS;
+use alto_addr::{Addr, AddrFault, print_addr, print_prefix, read_addr, read_prefix};
 use std::alloc::{AllocError, Global};
 use std::test::Fail;
 
@@ -74,66 +73,39 @@ fn near_texts_are_answered_as_by_another_program(rt: HostRuntime) -> Result<(), 
     Ok(())
 }
 
-#[test]
-fn a_prefix_has_zero_bits_past_its_length(rt: HostRuntime) {
-    for (text, outcome) in [
-        ("0.0.0.0/0", Ok((Addr::V4(0), 0u8))),
-        ("192.0.2.0/24", Ok((Addr::V4(0xc000_0200), 24))),
-        ("192.0.2.1/32", Ok((Addr::V4(0xc000_0201), 32))),
-        ("::1/128", Ok((Addr::V6(1), 128))),
-        ("192.0.2.0/33", Err(AddrFault::BadLength)),
-        ("192.0.2.1/999", Err(AddrFault::BadLength)),
-        ("::/129", Err(AddrFault::BadLength)),
-        ("192.0.2.1/24", Err(AddrFault::HostBits)),
-        ("::1/127", Err(AddrFault::HostBits)),
-        ("192.0.2.1", Err(AddrFault::BadText(9))),
-        ("192.0.2.0/", Err(AddrFault::BadText(10))),
-        ("192.0.2.0/024", Err(AddrFault::BadText(11))),
-        ("192.0.2.0/1000", Err(AddrFault::BadText(13))),
-        ("192.0.2/24", Err(AddrFault::BadText(7))),
-        ("/24", Err(AddrFault::BadText(0))),
-    ] {
-        let read = read_prefix(text.as_bytes()).map(|prefix| (prefix.addr, prefix.len));
-        assert_eq!(rt; read, outcome, "{text}");
-    }
-}
+/// Texts of prefixes, and what is printed of each, or the fault.
+const PREFIXES: &str = "\
+0.0.0.0/0 0.0.0.0/0
+192.0.2.0/24 192.0.2.0/24
+192.0.2.1/32 192.0.2.1/32
+2001:DB8::/32 2001:db8::/32
+::1/128 ::1/128
+192.0.2.0/33 BadLength
+192.0.2.1/999 BadLength
+::/129 BadLength
+192.0.2.1/24 HostBits
+::1/127 HostBits
+192.0.2.1 BadText(9)
+192.0.2.0/ BadText(10)
+192.0.2.0/024 BadText(11)
+192.0.2.0/1000 BadText(13)
+192.0.2/24 BadText(7)
+192.0.02.1 BadText(7)
+/24 BadText(0)";
 
-/// The prefix that a text writes.
-fn prefix(text: &str) -> Result<Prefix, Fail> {
+/// What is printed of the prefix that a text writes, or the fault.
+fn printed(alloc: Global, text: &str) -> Result<String, AllocError> {
     match read_prefix(text.as_bytes()) {
-        Ok(prefix) => Ok(prefix),
-        Err(_) => Err(Fail::new("no prefix")),
+        Ok(prefix) => print_prefix(alloc, &prefix),
+        Err(fault) => format!(in alloc; "{fault:?}"),
     }
 }
 
 #[test]
-fn a_prefix_holds_what_begins_as_it_does(rt: HostRuntime) -> Result<(), Fail> {
-    let net = prefix("192.0.2.128/25")?;
-    for (number, held) in [
-        (0xc000_0280, true),
-        (0xc000_02ff, true),
-        (0xc000_027f, false),
-        (0xc000_0300, false),
-    ] {
-        assert_eq!(rt; holds(&net, &Addr::V4(number)), held, "{number}");
-    }
-    assert_eq!(rt;
-        holds(&prefix("::/0")?, &Addr::V4(0)),
-        false,
-        "another family"
-    );
-    for (inner, outer, within) in [
-        ("192.0.2.128/25", "192.0.2.0/24", true),
-        ("192.0.2.0/24", "192.0.2.0/24", true),
-        ("192.0.2.0/24", "192.0.2.0/25", false),
-        ("2001:db8::/33", "2001:db8::/32", true),
-        ("0.0.0.0/0", "::/0", false),
-    ] {
-        let inner = prefix(inner)?;
-        let outer = prefix(outer)?;
-        assert_eq!(rt; inside(&inner, &outer), within);
-        let text = print_prefix(rt.alloc(), &inner)?;
-        assert_eq!(rt; read_prefix(text.as_bytes()), Ok(inner));
+fn a_prefix_has_zero_bits_past_its_length(rt: HostRuntime) -> Result<(), Fail> {
+    for line in PREFIXES.lines() {
+        let (text, expected) = line.split_once(' ').unwrap_or((line, ""));
+        assert_eq!(rt; printed(rt.alloc(), text)?.as_str(), expected, "{text}");
     }
     Ok(())
 }

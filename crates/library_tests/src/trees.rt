@@ -1,4 +1,5 @@
-use crate::{Tree, TreeFault, read, text};
+//! `json_tree`: trees and their texts.
+use json_tree::{Tree, TreeFault, read, text};
 use std::alloc::{AllocError, Global};
 use std::test::Fail;
 
@@ -86,5 +87,18 @@ fn texts_nest_to_127(rt: HostRuntime) -> Result<(), Fail> {
     assert!(rt; found.as_str() == deepest.as_str(), "127 deep gave {found}");
     let deeper = nested(alloc, 128)?;
     assert!(rt; is_refused(alloc, deeper.as_bytes())?, "128 deep");
+    Ok(())
+}
+
+/// Compiles only if the value may be shared between threads.
+fn shareable<T: Send + Sync>(_value: &T) {}
+
+#[test]
+fn texts_are_escaped(rt: HostRuntime) -> Result<(), Fail> {
+    let alloc = rt.alloc();
+    let tree = Tree::text(alloc, "/ \" \\ \u{8}\u{c}\n\r\t \0\u{1f} \u{7f} é\u{2028}😀")?;
+    let expected = "\"/ \\\" \\\\ \\b\\f\\n\\r\\t \\u0000\\u001f \u{7f} é\u{2028}😀\"";
+    assert_eq!(rt; printed(alloc, &tree)?.as_str(), expected);
+    shareable(&tree);
     Ok(())
 }

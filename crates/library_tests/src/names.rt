@@ -1,4 +1,5 @@
-use crate::{
+//! `alto_names`.
+use alto_names::{
     AneKind, EpochKind, ImportKind, Kind, Label, MetricKind, NameFault, NetKind, PidKind, PidName,
     PropKind,
 };
@@ -12,7 +13,8 @@ fn outcome<K: Kind>(rt: &HostRuntime, text: &[u8]) -> Result<(), NameFault> {
     Ok(())
 }
 
-/// The bytes that are names of the kind by themselves, and how many of the lengths from 1 to 65 a name may have.
+/// The bytes that are names of the kind by themselves, how many of the lengths from 1 to 65 a name may have, and the least
+/// name.
 fn bounds_of<K: Kind>(rt: &HostRuntime) -> Result<String, Fail> {
     let mut bounds = String::new(rt.alloc());
     for byte in 0..=u8::MAX {
@@ -27,21 +29,22 @@ fn bounds_of<K: Kind>(rt: &HostRuntime) -> Result<String, Fail> {
             lengths = lengths.saturating_add(1);
         }
     }
-    Ok(format!(in rt.alloc(); "{bounds} {lengths}")?)
+    let least = Label::<K>::least(rt.alloc())?;
+    Ok(format!(in rt.alloc(); "{bounds} {lengths} {least}")?)
 }
 
-const EPOCHS: &str = "0123456789ABCDEFGHIJKLMNOPQRSTUVWXYZabcdefghijklmnopqrstuvwxyz 20";
+const EPOCHS: &str = "0123456789ABCDEFGHIJKLMNOPQRSTUVWXYZabcdefghijklmnopqrstuvwxyz 20 0";
 
-const NETS: &str = "-0123456789ABCDEFGHIJKLMNOPQRSTUVWXYZ_abcdefghijklmnopqrstuvwxyz 24";
+const NETS: &str = "-0123456789ABCDEFGHIJKLMNOPQRSTUVWXYZ_abcdefghijklmnopqrstuvwxyz 24 -";
 
-const METRICS: &str = "-0123456789:ABCDEFGHIJKLMNOPQRSTUVWXYZ_abcdefghijklmnopqrstuvwxyz 32";
+const METRICS: &str = "-0123456789:ABCDEFGHIJKLMNOPQRSTUVWXYZ_abcdefghijklmnopqrstuvwxyz 32 -";
 
-const ANES: &str = "-0123456789:@ABCDEFGHIJKLMNOPQRSTUVWXYZ_abcdefghijklmnopqrstuvwxyz 32";
+const ANES: &str = "-0123456789:@ABCDEFGHIJKLMNOPQRSTUVWXYZ_abcdefghijklmnopqrstuvwxyz 32 -";
 
-const PIDS: &str = "-0123456789:@ABCDEFGHIJKLMNOPQRSTUVWXYZ_abcdefghijklmnopqrstuvwxyz 64";
+const PIDS: &str = "-0123456789:@ABCDEFGHIJKLMNOPQRSTUVWXYZ_abcdefghijklmnopqrstuvwxyz 64 -";
 
 const IMPORTS: &str =
-    "!\"#$%&'()*+,-./0123456789:;<=>?@ABCDEFGHIJKLMNOPQRSTUVWXYZ[\\]^_`abcdefghijklmnopqrstuvwxyz{|}~ 64";
+    "!\"#$%&'()*+,-./0123456789:;<=>?@ABCDEFGHIJKLMNOPQRSTUVWXYZ[\\]^_`abcdefghijklmnopqrstuvwxyz{|}~ 64 !";
 
 #[test]
 fn each_kind_has_its_alphabet_and_length(rt: HostRuntime) -> Result<(), Fail> {

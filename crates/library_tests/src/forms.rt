@@ -1,5 +1,6 @@
-use crate::{FormFault, read_csv, read_json};
+//! `edit_forms`.
 use alto_edits::Edit;
+use edit_forms::{FormFault, read_csv, read_json};
 use std::alloc::{AllocError, Global};
 use std::test::Fail;
 

@@ -1,9 +1,10 @@
-use crate::{
-    Batch, Entity, Key, PackedPrefix, PlainRows, Resource, RowStore, Span, Value, Write,
-    prefixes_of, rows_in, touches, walk_from,
-};
+//! `alto_rows`: stores of rows.
 use alto_addr::{print_prefix, read_prefix};
-use alto_names::{ImportId, Metric, NetName, PidName, PropName};
+use alto_names::{ImportId, NetName, PidName};
+use alto_rows::{
+    Batch, Entity, Key, PackedPrefix, PlainRows, Resource, RowStore, Span, Value, Write,
+    prefixes_of, rows_in, walk_from,
+};
 use std::test::Fail;
 
 fn net(rt: &HostRuntime, word: &str) -> Result<NetName, Fail> {
@@ -12,14 +13,6 @@ fn net(rt: &HostRuntime, word: &str) -> Result<NetName, Fail> {
 
 fn pid(rt: &HostRuntime, word: &str) -> Result<PidName, Fail> {
     Ok(PidName::read(rt.alloc(), word.as_bytes())?)
-}
-
-fn metric(rt: &HostRuntime, word: &str) -> Result<Metric, Fail> {
-    Ok(Metric::read(rt.alloc(), word.as_bytes())?)
-}
-
-fn prop(rt: &HostRuntime, word: &str) -> Result<PropName, Fail> {
-    Ok(PropName::read(rt.alloc(), word.as_bytes())?)
 }
 
 /// The first word of a line, and those behind it.
@@ -32,14 +25,10 @@ fn key_of(rt: &HostRuntime, line: &str) -> Result<Key, Fail> {
     let (kind, fields) = split(line);
     let (of, fields) = split(fields);
     let (first, fields) = split(fields);
-    let (second, third) = split(fields);
     match kind {
         "net" => Ok(Key::Net(net(rt, of)?)),
         "pid" => Ok(Key::Pid(net(rt, of)?, pid(rt, first)?)),
-        "prefix" => prefix_key(rt, of, first, second),
-        "metric" => Ok(Key::Metric(net(rt, of)?, metric(rt, first)?)),
-        "cost" => cost_key(rt, of, first, second, third),
-        "prop" => prop_key(rt, of, first, second),
+        "prefix" => prefix_key(rt, of, first, fields),
         "seq" => Ok(Key::Seq(Resource::Net(net(rt, of)?))),
         _ => Ok(Key::Window),
     }
@@ -51,25 +40,6 @@ fn prefix_key(rt: &HostRuntime, of: &str, owner: &str, prefix: &str) -> Result<K
         pid(rt, owner)?,
         PackedPrefix::new(&read_prefix(prefix.as_bytes())?),
     ))
-}
-
-fn cost_key(
-    rt: &HostRuntime,
-    of: &str,
-    name: &str,
-    source: &str,
-    destination: &str,
-) -> Result<Key, Fail> {
-    Ok(Key::Cost(
-        net(rt, of)?,
-        metric(rt, name)?,
-        pid(rt, source)?,
-        pid(rt, destination)?,
-    ))
-}
-
-fn prop_key(rt: &HostRuntime, of: &str, entity: &str, name: &str) -> Result<Key, Fail> {
-    Ok(Key::Prop(net(rt, of)?, Entity::Pid(pid(rt, entity)?), prop(rt, name)?))
 }
 
 /// The write that a line names: `-` deletes a key, `.` puts no value, and a digit puts a number.
@@ -149,48 +119,6 @@ fn prefixes_come_with_their_pids(rt: HostRuntime) -> Result<(), Fail> {
         text.as_str(),
         "198.51.100.0/24 east 2001:db8::/32 east 192.0.2.0/24 west "
     );
-    Ok(())
-}
-
-/// Whether a key touches the network map, the cost map of `hop` and the property map of `metro`.
-const TOUCHED: &str = "\
-window: false false false
-net metro: true false false
-net metrop: false false false
-pid metro a: true false false
-prefix metro a 192.0.2.0/24: true false false
-metric metro hop: false true false
-metric metro hops: false false false
-cost metro hop a ab: false true false
-cost metrop hop a ab: false false false
-prop metro a country: false false true
-seq metro: true true true
-seq metrop: false false false";
-
-fn is_touched(rt: &HostRuntime, of: Resource, line: &str) -> Result<bool, Fail> {
-    Ok(touches(&of, &key_of(rt, line)?))
-}
-
-/// Which of the three maps the key of a line touches.
-fn touched(rt: &HostRuntime, line: &str) -> Result<(bool, bool, bool), Fail> {
-    let map = is_touched(rt, Resource::Net(net(rt, "metro")?), line)?;
-    let costs = is_touched(
-        rt,
-        Resource::Cost(net(rt, "metro")?, metric(rt, "hop")?),
-        line,
-    )?;
-    let properties = is_touched(rt, Resource::Prop(net(rt, "metro")?), line)?;
-    Ok((map, costs, properties))
-}
-
-#[test]
-fn a_resource_is_touched_by_its_own_keys(rt: HostRuntime) -> Result<(), Fail> {
-    for line in TOUCHED.lines() {
-        let (key, expected) = line.split_once(": ").unwrap_or((line, ""));
-        let (map, costs, properties) = touched(&rt, key)?;
-        let got = format!(in rt.alloc(); "{map} {costs} {properties}")?;
-        assert_eq!(rt; got.as_str(), expected, "at {key}");
-    }
     Ok(())
 }
 

@@ -1,4 +1,5 @@
-use crate::{HeadFault, Intake, MemLink, Request, WriteFault, read_request, write_all};
+//! `alto_http`.
+use alto_http::{HeadFault, Intake, MemLink, Request, read_request};
 use std::alloc::{AllocError, Global};
 use std::test::Fail;
 
@@ -31,7 +32,6 @@ fn answer(read: &Result<Option<Request>, HeadFault>) -> &[u8] {
         Err(HeadFault::BodyTooLarge) => b"413",
         Err(HeadFault::Coded) => b"501",
         Err(HeadFault::Cut) => b"cut",
-        Err(HeadFault::ReadFault) => b"read",
         Err(_) => b"other",
     }
 }
@@ -129,39 +129,5 @@ fn the_first_check_that_fails_is_answered(rt: HostRuntime) -> Result<(), Fail> {
     for row in HEADS.lines() {
         assert!(rt; is_answered(rt.alloc(), row)?, "{row}");
     }
-    Ok(())
-}
-
-fn two_with_a_failing_read(alloc: Global) -> Result<Connection, AllocError> {
-    let sizes = [50].to_vec(alloc)?;
-    let calls = [1].to_vec(alloc)?;
-    let link = MemLink::new(alloc, TWO, 0)?;
-    connect(alloc, link.with_sizes(sizes).with_failing_reads(calls))
-}
-
-#[test]
-fn a_failed_read_loses_nothing(rt: HostRuntime) -> Result<(), Fail> {
-    let mut connection = two_with_a_failing_read(rt.alloc())?;
-    assert!(rt;
-        answers(rt.alloc(), &mut connection, b"read"),
-        "the second read"
-    );
-    assert!(rt;
-        gives_both(rt.alloc(), &mut connection),
-        "the requests again"
-    );
-    Ok(())
-}
-
-#[test]
-fn what_goes_out_is_a_prefix(rt: HostRuntime) -> Result<(), Fail> {
-    let calls = [2].to_vec(rt.alloc())?;
-    let mut link = MemLink::new(rt.alloc(), b"", 5)?.with_failing_writes(calls);
-    assert!(rt; write_all(&mut link, b"abc") == Ok(()), "there is room");
-    assert!(rt;
-        write_all(&mut link, b"defg") == Err(WriteFault),
-        "there is no more"
-    );
-    assert!(rt; link.output() == b"abcde".as_slice(), "the part that fits");
     Ok(())
 }

@@ -1,0 +1,10 @@
+use Rattle.std.proofs.Common.{◌≡◌, rules, sym, subst}
+use Rattle.alto_rows.specs.Good.{AreGood}
+use Rattle.alto_book.specs.Book.{rows_of}
+use Rattle.alto_book.proofs.StateLemmas.{good_rows}
+use Rattle.library_tests.proofs.desks.found.Goals as goal
+
+pub find_resource-requires : goal.find_resource-requires
+find_resource-requires c =
+    let rows : c.deref-2.result.now ≡ rows_of c.args.desk.now = search rules in
+    subst AreGood (sym rows) (good_rows _ c.front.ensures.legal)

@@ -1,0 +1,45 @@
+//! Tests of the libraries, in one crate, so that the gate proves none of these twice: printed texts, tables from outside,
+//! and one use of each call that allocates, on ample memory. What a contract pins has no test. The program's tests are
+//! its own.
+#![tactic(auto)]
+
+#[cfg(test)]
+mod addresses;
+#[cfg(test)]
+mod asks;
+#[cfg(test)]
+mod bodies;
+#[cfg(test)]
+mod constraints;
+#[cfg(test)]
+mod desks;
+#[cfg(test)]
+mod forms;
+#[cfg(test)]
+mod graphs;
+#[cfg(test)]
+mod limits;
+#[cfg(test)]
+mod links;
+#[cfg(test)]
+mod merging;
+#[cfg(test)]
+mod names;
+#[cfg(test)]
+mod near_addresses;
+#[cfg(test)]
+mod operations;
+#[cfg(test)]
+mod pointers;
+#[cfg(test)]
+mod rows;
+#[cfg(test)]
+mod rules;
+#[cfg(test)]
+mod stores;
+#[cfg(test)]
+mod texts_of_rows;
+#[cfg(test)]
+mod trees;
+#[cfg(test)]
+mod withdrawals;
