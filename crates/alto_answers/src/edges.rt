@@ -27,9 +27,9 @@ use crate::types::{JSON_PATCH, MERGE_PATCH, media_type};
 use alto_desk::Front;
 use alto_http::{Request, Verb, is_decimal};
 use alto_names::{NameFault, NetName};
-use alto_replies::{Reply, document_reply, gone, not_found, too_early, wrong_method};
+use alto_replies::{Reply, document_reply, gone, not_found, ok_reply, too_early, wrong_method};
 use alto_rows::{Key, Resource, RowStore};
-use edge_patch::{PatchForm, json_edge, merge_edge, snapshot};
+use edge_patch::{PatchForm, document_text, json_edge, merge_edge};
 use json_patch::ops_tree;
 use std::alloc::{AllocError, Global};
 use tips_graph::{EdgeStatus, Graph};
@@ -166,8 +166,8 @@ fn edge_reply<R: RowStore>(
         unreachable!();
     };
     let Some(keys) = graph.span(i, j) else {
-        let document = snapshot(alloc, resource, &**rows)?;
-        return document_reply(alloc, media_type(resource), &document);
+        let document = document_text(alloc, resource, &**rows)?;
+        return ok_reply(alloc, media_type(resource), document);
     };
     let Some(before) = graph.rows_at(i) else {
         unreachable!();

@@ -11,9 +11,9 @@ use crate::target::segment;
 use crate::types::NETWORK_MAP;
 use alto_http::Verb;
 use alto_names::{NameFault, NetName};
-use alto_replies::{Reply, document_reply, not_found, wrong_method};
+use alto_replies::{Reply, not_found, ok_reply, wrong_method};
 use alto_rows::{Key, RowStore};
-use net_docs::net_doc;
+use net_docs::net_text;
 use std::alloc::{AllocError, Global};
 
 /// What a request comes to whose path leads to `/maps/{resource}`.
@@ -52,7 +52,7 @@ fn net_reply<R: RowStore>(alloc: Global, rows: &R, net: &NetName) -> Result<Repl
     ensures { IfOk result (λ reply. reply ≡ net_reply (R.rows rows.now) net.now) }
 {
     if is_declared(rows, net)? {
-        document_reply(alloc, NETWORK_MAP, &net_doc(alloc, rows, net)?)
+        ok_reply(alloc, NETWORK_MAP, net_text(alloc, rows, net)?)
     } else {
         not_found(alloc, "resource")
     }

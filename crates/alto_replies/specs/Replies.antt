@@ -22,14 +22,18 @@ json_type = codes "application/json"
 abbrev pub whole : ℕ → Data
 whole n = number (unsigned n)
 
--- a reply with a document
-abbrev pub document_reply : List ℕ → Data → ReplyData
-document_reply media_type document = record {
+-- a reply with a body of this media type
+abbrev pub ok_reply : List ℕ → List ℕ → ReplyData
+ok_reply media_type body = record {
   status = 200;
   content_type = media_type;
   allow = None;
-  body = compact_text document;
+  body = body;
 }
+
+-- a reply with a document
+abbrev pub document_reply : List ℕ → Data → ReplyData
+document_reply media_type document = ok_reply media_type (compact_text document)
 
 -- a refusal with an object of JSON
 abbrev pub refusal : ℕ → List (List ℕ × Data) → ReplyData

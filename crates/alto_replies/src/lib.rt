@@ -17,8 +17,8 @@ mod writing;
 
 pub use errors::{alto_error, reply_or_error};
 pub use replies::{
-    bad_form, document_reply, edit_reply, form_reply, gone, head_status, not_found, status_alone,
-    too_early, wrong_method,
+    bad_form, document_reply, edit_reply, form_reply, gone, head_status, not_found, ok_reply,
+    status_alone, too_early, wrong_method,
 };
 pub use reply::Reply;
 pub use writing::reply_bytes;

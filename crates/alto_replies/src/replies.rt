@@ -8,7 +8,7 @@ ghost use Rattle.alto_http.specs.declared.request.Verb.TheVariants as verb;
 ghost use Rattle.alto_book.specs.declared.fault.EditFault.TheVariants as edit_fault;
 ghost use Rattle.edit_forms.specs.declared.fault.FormFault.TheVariants as form_fault;
 ghost use Rattle.alto_replies.specs.Reply.{IsReply};
-ghost use Rattle.alto_replies.specs.Replies.{json_type, whole, document_reply, status_alone, not_found, wrong_method, bad_form, form_reply, gone, too_early, receipt_reply, fault_reply, edit_reply, head_status};
+ghost use Rattle.alto_replies.specs.Replies.{json_type, whole, ok_reply, document_reply, status_alone, not_found, wrong_method, bad_form, form_reply, gone, too_early, receipt_reply, fault_reply, edit_reply, head_status};
 
 use crate::reply::Reply;
 use alto_book::{EditFault, Receipt};
@@ -20,17 +20,25 @@ use std::alloc::{AllocError, Global};
 
 const JSON: &str = "application/json";
 
-/// The reply 200 with a document of this media type.
-pub fn document_reply(alloc: Global, media_type: &str, document: &Tree) -> Result<Reply, AllocError>
-    ensures reply { IfOk result (λ reply. reply ≡ document_reply media_type.now (data_of document.now)) }
+/// The reply 200 with a body of this media type.
+pub fn ok_reply(alloc: Global, media_type: &str, body: Vec<u8>) -> Result<Reply, AllocError>
+    ensures reply { IfOk result (λ reply. reply ≡ ok_reply media_type.now body.items) }
     ensures has_bytes { IfOk result IsReply }
 {
     Ok(Reply {
         status: 200,
         content_type: Name::from_str(alloc, media_type)?,
         allow: None,
-        body: text(alloc, document)?,
+        body,
     })
+}
+
+/// The reply 200 with a document of this media type.
+pub fn document_reply(alloc: Global, media_type: &str, document: &Tree) -> Result<Reply, AllocError>
+    ensures reply { IfOk result (λ reply. reply ≡ document_reply media_type.now (data_of document.now)) }
+    ensures has_bytes { IfOk result IsReply }
+{
+    ok_reply(alloc, media_type, text(alloc, document)?)
 }
 
 /// The reply that nothing is here, and why.

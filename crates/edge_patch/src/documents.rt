@@ -1,28 +1,27 @@
 ghost use Rattle.std.specs.Prelude.{◌≡◌, true, IfOk};
 ghost use Rattle.alto_rows.specs.Good.{AreGood};
 ghost use Rattle.alto_rows.specs.Versions.{is_declared};
-ghost use Rattle.json_tree.specs.Tree.{data_of};
+ghost use Rattle.serde_json.specs.Written.{compact_text};
 ghost use Rattle.edge_patch.specs.Documents.{document, has_document};
 
 use alto_rows::{Resource, RowStore};
-use json_tree::Tree;
-use net_docs::net_doc;
+use net_docs::net_text;
 use std::alloc::{AllocError, Global};
 
-/// The document of a declared resource, which an edge from 0 holds whole (RFC 9569, section 3). Costs what the document
-/// costs.
-pub fn snapshot<R: RowStore>(
+/// The text of the document of a declared resource, which an edge from 0 holds whole (RFC 9569, section 3). Costs what
+/// the document's text costs.
+pub fn document_text<R: RowStore>(
     alloc: Global,
     resource: &Resource,
     rows: &R,
-) -> Result<Tree, AllocError>
+) -> Result<Vec<u8>, AllocError>
     requires good { AreGood (R.rows rows.now) }
     requires declared { is_declared (R.rows rows.now) resource.now ≡ true }
     requires kind { has_document resource.now ≡ true }
-    ensures { IfOk result (λ tree. data_of tree ≡ document resource.now (R.rows rows.now)) }
+    ensures { IfOk result (λ bytes. bytes.items ≡ compact_text (document resource.now (R.rows rows.now))) }
 {
     match resource {
-        Resource::Net(net) => net_doc(alloc, rows, net),
+        Resource::Net(net) => net_text(alloc, rows, net),
         _ => unreachable!(),
     }
 }

@@ -16,7 +16,7 @@ mod laws;
 mod merge;
 mod operations;
 
-pub use documents::snapshot;
+pub use documents::document_text;
 pub use form::PatchForm;
 pub use laws::{only_touching_keys_count, steps_lead_on, untouched_is_empty};
 pub use merge::merge_edge;

@@ -2,6 +2,7 @@ pub mod SpanLemmas
 pub mod GroupLemmas
 pub mod PidLemmas
 pub mod MergedLemmas
+pub mod WritingLemmas
 pub mod ListedLemmas
 pub mod KeysLemmas
 pub mod StandsLemmas

@@ -199,7 +199,7 @@ pids_behind net pid ((key.Pid of other, v) ∷ rows) past = by (same_name net of
 pids_behind net pid (_ ∷ rows) past = pids_behind net pid rows past.1
 
 -- a network's PIDs rise
-pids_rise : (net : Name) (rows : Rows) → AreSorted rows → IsStrictlySortedBy name_cmp (pids_of rows net)
+pub pids_rise : (net : Name) (rows : Rows) → AreSorted rows → IsStrictlySortedBy name_cmp (pids_of rows net)
 unfolding IsStrictlySortedBy
 pids_rise net [] sorted = tt
 pids_rise net ((key.Pid of pid, v) ∷ rows) sorted = by (same_name net of) refl (pids_rise net rows (sorted_rest (key.Pid of pid, v) rows sorted))

@@ -1,5 +1,6 @@
 pub mod NetworkMap
 pub mod Prefixes
+pub mod Writing
 pub mod Differ
 pub mod Laws
 pub mod Ask

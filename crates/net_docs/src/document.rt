@@ -1,4 +1,5 @@
 ghost use Rattle.std.specs.Prelude.{◌≡◌, true, [], ◌∷◌, codes, IfOk};
+ghost use Rattle.serde_json.specs.Written.{compact_text};
 ghost use Rattle.alto_rows.specs.Good.{AreGood};
 ghost use Rattle.alto_rows.specs.Rows.{has_row};
 ghost use Rattle.alto_rows.specs.declared.key.Key.TheVariants as key;
@@ -8,14 +9,25 @@ ghost use Rattle.net_docs.specs.NetworkMap as spec;
 
 use crate::source::NetMap;
 use crate::version::tag;
-use alto_maps::snapshot;
+use alto_maps::{snapshot, write_document};
 use alto_names::NetName;
 use alto_rows::{Resource, RowStore};
 use json_tree::{Members, Tree};
 use std::alloc::{AllocError, Global};
 
-/// The network map of a declared network (RFC 7285, section 11.2.1.6). Costs two searches for the tag, one walk over the rows of
-/// the network's PIDs, and one over those of their prefixes.
+/// The text of the network map of a declared network (RFC 7285, section 11.2.1.6), with no space, written without a
+/// tree. Costs two searches for the tag, one walk over the rows of the network's PIDs, and for each of them one search
+/// and one walk over the rows of its prefixes.
+pub fn net_text<R: RowStore>(alloc: Global, rows: &R, net: &NetName) -> Result<Vec<u8>, AllocError>
+    requires good { AreGood (R.rows rows.now) }
+    requires declared { has_row (R.rows rows.now) (key.Net net.now) ≡ true }
+    ensures { IfOk result (λ bytes. bytes.items ≡ compact_text (spec.network_map (R.rows rows.now) net.now)) }
+{
+    write_document(alloc, &NetMap::new(rows, net))
+}
+
+/// The same map as a tree. Costs two searches for the tag, one walk over the rows of the network's PIDs, and one over
+/// those of their prefixes.
 pub fn net_doc<R: RowStore>(alloc: Global, rows: &R, net: &NetName) -> Result<Tree, AllocError>
     requires good { AreGood (R.rows rows.now) }
     requires declared { has_row (R.rows rows.now) (key.Net net.now) ≡ true }

@@ -16,9 +16,10 @@ mod places;
 mod prefixes;
 mod source;
 mod version;
+mod writing;
 
 pub use ask::{Family, NetAsk, Pick, PidNames, read_net_ask};
-pub use document::{net_doc, version_tag};
+pub use document::{net_doc, net_text, version_tag};
 pub use filter::filter_net;
 pub use laws::{map_is_of_its_keys, maps_differ_at_places};
 pub use places::net_places;

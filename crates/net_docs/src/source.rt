@@ -10,9 +10,11 @@ use crate::document::{meta_of, version_tag};
 use crate::pids::{group, groups};
 use crate::prefixes::{prefixes_of, texts_in_family};
 use crate::version::tag;
-use alto_maps::MapSource;
+use crate::writing::{write_groups, write_meta};
+use alto_maps::{MapSource, Walked};
 use alto_names::{NameFault, NetName, PidName};
 use alto_rows::{Key, Resource, RowStore};
+use json::Writer;
 use json_tree::{Name, Tree};
 use std::alloc::{AllocError, Global};
 use std::marker::Model;
@@ -94,6 +96,16 @@ impl<'a, R: RowStore> MapSource for NetMap<'a, R> {
             Some(pid) => member_of(alloc, self.rows, self.net, &pid, member),
             None => unreachable!(),
         }
+    }
+}
+
+impl<'a, R: RowStore> Walked for NetMap<'a, R> {
+    fn write_meta(&self, alloc: Global, out: &mut Writer) -> Result<(), AllocError> {
+        write_meta(alloc, self.rows, self.net, out)
+    }
+
+    fn write_groups(&self, alloc: Global, out: &mut Writer) -> Result<(), AllocError> {
+        write_groups(alloc, self.rows, self.net, out)
     }
 }
 

@@ -6,25 +6,25 @@ use Rattle.alto_answers.proofs.edges.edge_reply.Goals as goal
 pub unreachable-requires : goal.unreachable-requires
 unreachable-requires g c = rows_there _ _ _ _ _ c.requires.1 c.requires.2 c.in_default.ensures
 
-pub snapshot-requires-clause-good : goal.snapshot-requires-clause-good
-snapshot-requires-clause-good g c =
+pub document_text-requires-clause-good : goal.document_text-requires-clause-good
+document_text-requires-clause-good g c =
     let rows = rows_here _ _ _ _ _ _ c.requires.1 c.requires.2 c.in-Some.ensures in
     (rows_good _ _ _ _ _ _ c.requires.1 c.requires.2 (ap g.R.RowStore.rows c.deref.ensures ∙ rows)).0
 
-pub snapshot-requires-clause-declared : goal.snapshot-requires-clause-declared
-snapshot-requires-clause-declared g c =
+pub document_text-requires-clause-declared : goal.document_text-requires-clause-declared
+document_text-requires-clause-declared g c =
     let rows = rows_here _ _ _ _ _ _ c.requires.1 c.requires.2 c.in-Some.ensures in
     (rows_good _ _ _ _ _ _ c.requires.1 c.requires.2 (ap g.R.RowStore.rows c.deref.ensures ∙ rows)).1
 
 pub returns-in_default-span-clause-reply : goal.returns-in_default-span-clause-reply
 returns-in_default-span-clause-reply g c =
-    IfOk-weaker c.document_reply.result _ _
+    IfOk-weaker c.ok_reply.result _ _
     (λ reply made book is.
     let here = here_too _ _ _ _ c.args.i c.args.j c.requires.1 is c.requires.2 in
     let rows = rows_here _ _ _ c.args.i c.args.j _ is here c.in-Some.ensures in
     made ∙ rw (c.media_type.ensures, c.in_ok-document.ensures)
     (whole_document _ _ _ c.args.form _ _ _ is here (ap g.R.RowStore.rows c.deref.ensures ∙ rows) c.in_default-span.ensures))
-    c.document_reply.ensures.reply
+    c.ok_reply.ensures.reply
 
 pub unreachable-requires-in_default-rows_at : goal.unreachable-requires-in_default-rows_at
 unreachable-requires-in_default-rows_at g c =
