@@ -1,12 +1,12 @@
 -- Groups and families that are written one behind another.
 use Rattle.std.proofs.Common.{◌≡◌, refl, ap, sym, ◌∙◌, append_assoc}
 use Rattle.std.specs.Prelude.{Bool, true, false, List, [], ◌∷◌, ◌++◌, map, codes}
-use Rattle.json.specs.Token.{begin_object, end_object, key}
+use Rattle.json.specs.Token.{begin_array, begin_object, end_array, end_object, key}
 use Rattle.json.specs.Tree.{json_tokens}
 use Rattle.json.specs.Written.{Written}
 use Rattle.serde_json.specs.Data.{Data, object, Members, no_members, member}
 use Rattle.serde_json.specs.Written.{outline}
-use Rattle.json_tree.specs.Document.{with_member}
+use Rattle.json_tree.specs.Document.{array_of, with_member}
 use Rattle.json_tree.specs.Tree.{members_in_order}
 use Rattle.alto_addr.specs.declared.prefix.Prefix.{Prefix}
 use Rattle.alto_rows.specs.Rows.{Rows, AreSorted}
@@ -61,3 +61,15 @@ object_of_two k l d e old begun first second new opened same one two closed stay
       before = two.before ∙ one.before;
     })
     closed stays
+
+-- a list of one value, between its brackets
+pub array_of_one : (d : Data) (old begun mid new : Written) → begun.tokens ≡ old.tokens ++ begin_array ∷ [] → begun.before ≡ old.before
+    → AddsValue d begun mid → new.tokens ≡ mid.tokens ++ end_array ∷ [] → new.before ≡ mid.before → AddsValue (array_of (d ∷ [])) old new
+array_of_one d old begun mid new opened same added closed stays =
+    record {
+      tokens =
+          closed
+          ∙ (ap (λ ts. ts ++ end_array ∷ []) (added.tokens ∙ (ap (λ ts. ts ++ json_tokens (outline d)) opened ∙ append_assoc old.tokens (begin_array ∷ []) (json_tokens (outline d))))
+          ∙ append_assoc old.tokens (begin_array ∷ json_tokens (outline d)) (end_array ∷ []));
+      before = stays ∙ (added.before ∙ same);
+    }

@@ -55,6 +55,10 @@ abbrev pub version_tag : Rows → Name → Data
 version_tag rows net =
     object_of ((codes "resource-id", string net) ∷ (codes "tag", string (tag_of rows (resource.Net net))) ∷ [])
 
+-- the version tags that a map tells which depends on a network's map (section 11.2.3.6): that map's alone
+abbrev pub dependent_tags : Rows → Name → Data
+dependent_tags rows net = array_of (version_tag rows net ∷ [])
+
 -- what the map shows: PIDs as groups, and of each the families that it has prefixes of
 abbrev pub net_face : Name → Rows → Face
 net_face net rows = record {

@@ -15,6 +15,7 @@ mod pids;
 mod places;
 mod prefixes;
 mod source;
+mod tags;
 mod version;
 mod writing;
 
@@ -24,4 +25,5 @@ pub use filter::filter_net;
 pub use laws::{map_is_of_its_keys, maps_differ_at_places};
 pub use places::net_places;
 pub use source::NetMap;
+pub use tags::{dependent_tags, write_dependent_tags, write_text};
 pub use version::{epoch, tag};

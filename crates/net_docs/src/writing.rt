@@ -1,20 +1,18 @@
 //! A network map's parts as JSON text, written without a tree.
 ghost use Rattle.std.specs.Prelude.{◌≡◌, true, false, not, OnOk};
-ghost use Rattle.serde_json.specs.Data.{string};
 ghost use Rattle.alto_rows.specs.Good.{AreGood};
 ghost use Rattle.alto_maps.specs.Shape.{group_object, section_object};
 ghost use Rattle.alto_maps.specs.Writing.{AddsValue, AddsMember, AddsMembers};
 ghost use Rattle.net_docs.specs.NetworkMap.{is_empty, net_face};
-ghost use Rattle.net_docs.specs.NetworkMap as spec;
 ghost use Rattle.net_docs.specs.Prefixes.{group_of, texts_in_family};
 ghost use Rattle.net_docs.specs.Writing.{AddsFamily, AddsTexts, groups_of};
 
 use crate::pids::pid_in;
 use crate::prefixes::{family, prefixes_of};
-use crate::version::tag;
+use crate::tags::write_version_tag;
 use alto_addr::{Prefix, print_prefix};
 use alto_names::{NetName, PidName};
-use alto_rows::{Resource, RowStore, Span, rows_in};
+use alto_rows::{RowStore, Span, rows_in};
 use json::Writer;
 use std::alloc::{AllocError, Global};
 
@@ -32,30 +30,6 @@ pub(crate) fn write_meta<R: RowStore>(
     out.key("vtag")?;
     write_version_tag(alloc, rows, net, out)?;
     out.end_object()
-}
-
-/// Writes the version tag.
-fn write_version_tag<R: RowStore>(
-    alloc: Global,
-    rows: &R,
-    net: &NetName,
-    out: &mut Writer,
-) -> Result<(), AllocError>
-    ensures { OnOk result (AddsValue (spec.version_tag (R.rows rows.now) net.now) out.old out.new) }
-{
-    let tag = tag(alloc, rows, &Resource::Net(net.clone()?))?;
-    out.begin_object()?;
-    write_text(out, "resource-id", net.as_str())?;
-    write_text(out, "tag", tag.as_str())?;
-    out.end_object()
-}
-
-/// Writes a text with its name.
-fn write_text(out: &mut Writer, name: &str, text: &str) -> Result<(), AllocError>
-    ensures { OnOk result (AddsMember name.now (string text.now) out.old out.new) }
-{
-    out.key(name)?;
-    out.string(text)
 }
 
 /// Writes the groups: one walk over the rows of the network's PIDs, and for each of them one search and one walk over

@@ -8,7 +8,7 @@ use Rattle.alto_rows.specs.declared.resource.Resource.TheVariants as resource
 use Rattle.alto_rows.specs.Versions.{tag_of}
 use Rattle.net_docs.specs.NetworkMap.{version_tag}
 use Rattle.net_docs.proofs.WritingLemmas.{object_of_two}
-use Rattle.net_docs.proofs.writing.write_version_tag.Goals as goal
+use Rattle.net_docs.proofs.tags.write_version_tag.Goals as goal
 
 pub returns : goal.returns
 unfolding with_member

@@ -1,0 +1,5 @@
+pub mod CostMap
+pub mod Ordinal
+pub mod Costs
+pub mod Writing
+pub mod Laws
