@@ -1,0 +1,9 @@
+pub mod FitLemmas
+pub mod ShownLemmas
+pub mod PlaceLemmas
+pub mod TextLemmas
+pub mod EntityLemmas
+pub mod GroupLemmas
+pub mod WritingLemmas
+pub mod SourceLemmas
+pub mod AskLemmas

@@ -1,0 +1,4 @@
+use Rattle.prop_docs.proofs.source.PropMapMapSource.group.Goals as goal
+
+pub returns : goal.returns
+returns g c = rw (← c.self.view_is) c.group.ensures

@@ -1,0 +1,91 @@
+//! Entities and their texts (RFC 9240, section 5.1.3).
+ghost use Rattle.std.specs.Prelude.{◌≡◌, true, IfOk};
+ghost use Rattle.alto_rows.specs.Good.{IsEntity};
+ghost use Rattle.alto_rows.specs.declared.entity.Entity.{Entity as TheEntity};
+ghost use Rattle.prop_docs.specs.Properties.{if_text_of, is_found};
+ghost use Rattle.prop_docs.specs.PropertyMap as spec;
+
+use alto_addr::Addr;
+use alto_names::NetName;
+use alto_rows::{Entity, Key, RowStore, Span, Value, print_entity, read_entity, rows_in};
+use json_tree::Name;
+use std::alloc::{AllocError, Global};
+use std::collections::BTreeSet;
+
+/// The texts of the entities of a network that have properties, in byte order, which isn't that of their rows. One walk
+/// over the rows of these properties, and one search among the texts for each.
+pub(crate) fn entities_of<R: RowStore>(
+    alloc: Global,
+    rows: &R,
+    net: &NetName,
+) -> Result<BTreeSet<Name>, AllocError>
+    ensures { IfOk result (λ texts. texts.keys ≡ spec.entities_of (R.rows rows.now) net.now) }
+{
+    let mut texts = BTreeSet::new(alloc);
+    for row in rows_in(rows, Span::Props(net.clone()?)) {
+        if let Some(text) = entity_in(alloc, net, row)? {
+            texts.insert(text)?;
+        }
+    }
+    Ok(texts)
+}
+
+/// The text of the entity that a row gives a property.
+fn entity_in(alloc: Global, net: &NetName, row: &(Key, Value)) -> Result<Option<Name>, AllocError>
+    ensures { IfOk result (λ text. text ≡ spec.entity_in net.now row.now) }
+{
+    match &row.0 {
+        Key::Prop(of, entity, _) if net == of => {
+            has_bits(entity);
+            Ok(Some(print_entity(alloc, net, entity)?))
+        }
+        _ => Ok(None),
+    }
+}
+
+/// The entity that has exactly this text, `None` where none has it: a text that writes an entity in another way names
+/// no group.
+pub(crate) fn entity_named(
+    alloc: Global,
+    net: &NetName,
+    text: &Name,
+) -> Result<Option<Entity>, AllocError>
+    ensures { IfOk result (λ found. (entity : TheEntity) → IsEntity entity
+        → spec.is_text_of net.now text.now entity ≡ is_found found entity) }
+{
+    match read_entity(alloc, net, text.as_str().as_bytes())? {
+        Some(entity) => if_text_of(alloc, net, text, entity),
+        None => Ok(None),
+    }
+}
+
+/// The entity, if the text is what is written of it.
+fn if_text_of(
+    alloc: Global,
+    net: &NetName,
+    text: &Name,
+    entity: Entity,
+) -> Result<Option<Entity>, AllocError>
+    ensures { IfOk result (λ found. found ≡ if_text_of net.now text.now entity) }
+{
+    has_bits(&entity);
+    let printed = print_entity(alloc, net, &entity)?;
+    if *text == printed {
+        Ok(Some(entity))
+    } else {
+        Ok(None)
+    }
+}
+
+/// An entity has an address of as many bits as its family has.
+fn has_bits(entity: &Entity)
+    ensures { spec.has_bits entity.now ≡ true }
+{
+    if let Entity::Block(block) = entity {
+        let prefix = block.prefix();
+        match prefix.addr {
+            Addr::V4(_) => {}
+            Addr::V6(_) => {}
+        }
+    }
+}
