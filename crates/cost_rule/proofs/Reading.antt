@@ -1,19 +1,14 @@
 -- Reading stage by stage, byte by byte.
 use Rattle.std.proofs.Common.{◌≡◌, ℕ, List, [], ◌∷◌, ◌++◌, Option, Some, None, refl, ap}
 use Rattle.std.specs.Option.{option_and_then}
+unfoldable pub use Rattle.cost_rule.specs.Stages.{read}
 use Rattle.cost_rule.specs.Stages.{step, finish}
-use Rattle.cost_rule.specs.declared.constraint.Constraint.{Constraint}
 use Rattle.cost_rule.specs.declared.stage.Stage.{Stage}
 
 -- the stage after the bytes
 unfoldable pub walk : Stage → List ℕ → Option Stage
 walk stage [] = Some stage
 walk stage (byte ∷ rest) = option_and_then (λ next. walk next rest) (step stage byte)
-
--- the constraint of the bytes that are left
-unfoldable pub read : Stage → List ℕ → Option Constraint
-read stage [] = finish stage
-read stage (byte ∷ rest) = option_and_then (λ next. read next rest) (step stage byte)
 
 pub read-nil : (stage : Stage) → read stage [] ≡ finish stage
 unfolding read

@@ -2,3 +2,4 @@ pub mod Grammar
 pub mod Meaning
 pub mod Beginning
 pub mod Stages
+pub mod Laws

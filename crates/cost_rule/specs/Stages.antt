@@ -1,5 +1,6 @@
--- The stages in which a constraint is read byte by byte. The calls of the crate are held to the grammar, not to these.
-use Rattle.std.specs.Prelude.{ℕ, ◌+◌, ◌-◌, ◌*◌, ◌^◌, ◌<◌, ◌≤◌, ◌==◌, nat_lt, Option, Some, None, option_map, if◌then◌else◌}
+-- The stages in which a constraint is read byte by byte, and what that comes to. The calls of the crate are held to the grammar, not to
+-- these.
+use Rattle.std.specs.Prelude.{ℕ, ◌+◌, ◌-◌, ◌*◌, ◌^◌, ◌<◌, ◌≤◌, ◌==◌, nat_lt, List, [], ◌∷◌, Option, Some, None, option_and_then, option_map, if◌then◌else◌}
 use Rattle.std.specs.Char.{is_ascii_digit}
 use Rattle.cost_rule.specs.Grammar.{is_blank}
 use Rattle.cost_rule.specs.declared.constraint.Constraint.{Constraint}
@@ -64,6 +65,15 @@ finish (Whole index relation digits) =
 finish (Fraction index relation whole digits) =
     Some (record { index = index; relation = relation; millionths = whole * 1_000_000 + digits.number * 10 ^ (6 - digits.count) })
 finish _ = None
+
+-- the constraint of the bytes that are left
+unfoldable pub read : Stage → List ℕ → Option Constraint
+read stage [] = finish stage
+read stage (byte ∷ rest) = option_and_then (λ next. read next rest) (step stage byte)
+
+-- the constraint that a text spells: by a law of this crate exactly that of the grammar
+abbrev pub spelled : List ℕ → Option Constraint
+spelled text = read Start text
 
 -- the number has no more digits than were counted, at most so many
 pub record IsCounted (most : ℕ) (digits : Digits) : Type 0 where

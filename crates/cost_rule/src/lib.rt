@@ -6,11 +6,13 @@
 mod constraint;
 mod digits;
 mod fault;
+mod laws;
 mod lists;
 mod read;
 mod stage;
 
 pub use constraint::{Constraint, Relation, holds};
 pub use fault::ConstraintFault;
+pub use laws::spelled_by_grammar;
 pub use lists::{all_hold, one_holds};
 pub use read::read_constraint;

@@ -1,0 +1,24 @@
+//! What a client may ask of costs (RFC 7285, section 11.3.2; RFC 8189): cost types, constraints and PIDs, and the cost
+//! map cut to that.
+//!
+//! ```text
+//! {"cost-type":{"cost-mode":"numerical","cost-metric":"routingcost"},
+//!  "constraints":["le 10"],"pids":{"srcs":["east"],"dsts":[]}}
+//! {"multi-cost-types":[{"cost-mode":"numerical","cost-metric":"routingcost"},..],
+//!  "or-constraints":[["[0] le 10"],["[1] gt 1.5"]]}
+//! ```
+#![tactic(auto)]
+
+mod ask;
+mod columns;
+mod constraints;
+mod fields;
+mod filter;
+mod picks;
+mod types;
+mod values;
+
+pub use ask::{CostAsk, read_cost_ask};
+pub use constraints::{Tests, read_constraints};
+pub use filter::filter_cost;
+pub use types::{AskedTypes, CostType, read_types};
