@@ -7,7 +7,6 @@ use Rattle.alto_rows.specs.declared.resource.Resource.{Resource}
 use Rattle.alto_rows.specs.Rows.{Rows}
 use Rattle.alto_rows.specs.Versions.{version_of}
 use Rattle.net_docs.specs.Differ.{DifferBy}
-use Rattle.edge_patch.specs.Documents.{has_document}
 use Rattle.edge_patch.specs.Documents as documents
 use Rattle.edge_patch.specs.declared.form.PatchForm.{PatchForm}
 use Rattle.edge_patch.specs.declared.form.PatchForm.TheVariants as form
@@ -87,34 +86,34 @@ edge_differs book of edge legal a some = rw (it.keys some, it.before some, it.ro
         (all.declared (batches_to a.look of edge.i) (omega arith) all.first.within)
 
 -- a patch between rows that differ at its keys leads from document to document, in either form
-patch_leads_on : (form : PatchForm) (of : Resource) (before later : Rows) (keys : List Key) → has_document of ≡ true → DifferBy keys before later of
+patch_leads_on : (form : PatchForm) (of : Resource) (before later : Rows) (keys : List Key) → DifferBy keys before later of
     → held_after (documents.document of before) (patch form of before later keys) ≡ Ok (documents.document of later)
-patch_leads_on form.Merge of before later keys has differ = ap (λ (d : Data). Ok d) (step_leads_on of before later keys has differ)
-patch_leads_on form.Operations of before later keys has differ = step_operates of before later keys has differ
+patch_leads_on form.Merge of before later keys differ = ap (λ (d : Data). Ok d) (step_leads_on of before later keys differ)
+patch_leads_on form.Operations of before later keys differ = step_operates of before later keys differ
 
 -- one edge leads a client that holds the document at its beginning to the document at its end
-edge_leads_on : (book : Book) (of : Resource) (edge : Edge) (held : Data) → IsLegal book → has_document of ≡ true → IsAnswered book of edge
+edge_leads_on : (book : Book) (of : Resource) (edge : Edge) (held : Data) → IsLegal book → IsAnswered book of edge
     → (1 ≤ edge.i → held ≡ document_at book of edge.i) → held_after held edge.content ≡ Ok (document_at book of edge.j)
-edge_leads_on book of edge held legal has a start = ap (held_after held) (bodies_stay book of edge legal a) ∙ by (edge.i == 0) refl
+edge_leads_on book of edge held legal a start = ap (held_after held) (bodies_stay book of edge legal a) ∙ by (edge.i == 0) refl
   where
     by : (b : Bool) → (edge.i == 0) ≡ b → held_after held (edge_content book of edge.form edge.i edge.j) ≡ Ok (document_at book of edge.j)
     by true e = rw e refl
     by false e =
         let some : 1 ≤ edge.i = from_a_number edge.i e in
         rw (e, start some)
-        (patch_leads_on edge.form of (rows_at book of edge.i) (rows_at book of edge.j) (keys_between book of edge.i edge.j) has (edge_differs book of edge legal a some))
+        (patch_leads_on edge.form of (rows_at book of edge.i) (rows_at book of edge.j) (keys_between book of edge.i edge.j) (edge_differs book of edge legal a some))
 
 -- edges in turn
-edges_lead_on : (book : Book) (of : Resource) (from at : ℕ) (edges : List Edge) (held : Data) → IsLegal book → has_document of ≡ true
+edges_lead_on : (book : Book) (of : Resource) (from at : ℕ) (edges : List Edge) (held : Data) → IsLegal book
     → IsWalk book of from edges at → held ≡ document_at book of from → followed held edges ≡ Ok (document_at book of at)
-edges_lead_on book of from at [] held legal has walk same = ap (λ (d : Data). Ok d) (same ∙ ap (document_at book of) walk)
-edges_lead_on book of from at (edge ∷ edges) held legal has walk same =
+edges_lead_on book of from at [] held legal walk same = ap (λ (d : Data). Ok d) (same ∙ ap (document_at book of) walk)
+edges_lead_on book of from at (edge ∷ edges) held legal walk same =
     ap (and_then (λ next. followed next edges))
-    (edge_leads_on book of edge held legal has walk.1 (λ some. same ∙ ap (document_at book of) (sym walk.0)))
-    ∙ edges_lead_on book of edge.j at edges (document_at book of edge.j) legal has walk.2 refl
+    (edge_leads_on book of edge held legal walk.1 (λ some. same ∙ ap (document_at book of) (sym walk.0)))
+    ∙ edges_lead_on book of edge.j at edges (document_at book of edge.j) legal walk.2 refl
 
 pub walks_lead_on : WalksLeadOn
-walks_lead_on book of from at first edges held legal has walk start =
+walks_lead_on book of from at first edges held legal walk start =
     ap (and_then (λ next. followed next edges))
-    (edge_leads_on book of first held legal has walk.1 (λ some. start (rw (← walk.0) some) ∙ ap (document_at book of) (sym walk.0)))
-    ∙ edges_lead_on book of first.j at edges (document_at book of first.j) legal has walk.2 refl
+    (edge_leads_on book of first held legal walk.1 (λ some. start (rw (← walk.0) some) ∙ ap (document_at book of) (sym walk.0)))
+    ∙ edges_lead_on book of first.j at edges (document_at book of first.j) legal walk.2 refl

@@ -1,8 +1,7 @@
 -- What holds of edges that were answered, and of walks along them: the statements of the laws.
-use Rattle.std.specs.Prelude.{◌≡◌, ℕ, ◌≤◌, List, ◌∷◌, true, Ok}
+use Rattle.std.specs.Prelude.{◌≡◌, ℕ, ◌≤◌, List, ◌∷◌, Ok}
 use Rattle.serde_json.specs.Data.{Data}
 use Rattle.alto_rows.specs.declared.resource.Resource.{Resource}
-use Rattle.edge_patch.specs.Documents.{has_document}
 use Rattle.alto_book.specs.Book.{Book, Extends}
 use Rattle.alto_book.specs.Legal.{IsLegal}
 use Rattle.alto_book.specs.Walks.{document_at, edge_content, Edge, followed, IsAnswered, IsWalk}
@@ -20,6 +19,5 @@ BodiesStay = (book : Book) (of : Resource) (edge : Edge) → IsLegal book → Is
 -- edges; from 0 it needs none
 abbrev pub WalksLeadOn : Type 0
 WalksLeadOn = (book : Book) (of : Resource) (from at : ℕ) (first : Edge) (edges : List Edge) (held : Data)
-    → IsLegal book → has_document of ≡ true
-    → IsWalk book of from (first ∷ edges) at → (1 ≤ from → held ≡ document_at book of from)
+    → IsLegal book → IsWalk book of from (first ∷ edges) at → (1 ≤ from → held ≡ document_at book of from)
     → followed held (first ∷ edges) ≡ Ok (document_at book of at)
