@@ -12,19 +12,19 @@ use Rattle.alto_book.proofs.GrownLemmas.{writes_in-grown}
 use Rattle.alto_book.proofs.OpeningLemmas.{legal_opening}
 use Rattle.alto_book.proofs.StateLemmas.{good_rows}
 use Rattle.alto_desk.specs.Desk.{Keeps, book_kept}
-use Rattle.alto_desk.specs.Front.{Version, StandsFor, graphs_of}
+use Rattle.alto_desk.specs.Front.{Version, StandsFor, graphs_of, tables_of}
 
--- a desk without batches whose version has the rows of its base and no graphs
+-- a desk without batches whose version has the rows of its base, no graphs and no tables
 pub keeps_opening : (epoch : List ℕ) (window : ℕ) (base : Rows) (batches : List Accepted) (version : Version)
     → IsEpoch epoch → 2 ≤ window → window ≤ 32
-    → base ≡ opening_rows epoch window → batches ≡ [] → version.n ≡ 0 → version.rows ≡ base → version.graphs ≡ []
+    → base ≡ opening_rows epoch window → batches ≡ [] → version.n ≡ 0 → version.rows ≡ base → version.graphs ≡ [] → version.tables ≡ []
     → Keeps (book_kept base batches) 0 version
-keeps_opening epoch window base batches version is low high opened empty zero same none =
+keeps_opening epoch window base batches version is low high opened empty zero same none untabled =
     rw (opened, empty)
     (record {
       legal = legal_opening epoch window is low high;
       counted = refl;
-      stands = record { number = zero; current = same ∙ opened; graphs = none };
+      stands = record { number = zero; current = same ∙ opened; graphs = none; tables = untabled };
     })
 
 -- the rows of a book with one batch more
@@ -35,14 +35,16 @@ rows_of-with_batch book batch =
 -- a version with one batch more stands for the book with it
 pub stands_more : (book : Book) (batch : Accepted) (old version : Version) → StandsFor old book
     → version.n ≡ old.n + 1 → version.rows ≡ after old.rows batch.writes
-    → (version.rows ≡ rows_of (with_batch book batch) → version.graphs ≡ graphs_of (with_batch book batch)) → StandsFor version (with_batch book batch)
-stands_more book batch old version stands next led graphs =
+    → (version.rows ≡ rows_of (with_batch book batch) → version.graphs ≡ graphs_of (with_batch book batch))
+    → (version.rows ≡ rows_of (with_batch book batch) → version.tables ≡ tables_of (with_batch book batch)) → StandsFor version (with_batch book batch)
+stands_more book batch old version stands next led graphs tables =
     let current : version.rows ≡ rows_of (with_batch book batch) =
     led ∙ (ap (λ (rows : Rows). after rows batch.writes) stands.current ∙ rows_of-with_batch book batch) in
     record {
       number = rw (next, stands.number) (omega (arith, length-append book.batches (batch ∷ [])));
       current = current;
       graphs = graphs current;
+      tables = tables current;
     }
 
 -- a desk with one batch more, and the version after it

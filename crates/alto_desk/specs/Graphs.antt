@@ -13,8 +13,8 @@ use Rattle.alto_book.specs.Numbers.{touching}
 use Rattle.tips_graph.specs.Graph.{Push, GraphData, graph_from, with_push}
 use Rattle.tips_graph.specs.Keys.{key_set}
 
--- shared graphs, each under its resource, as data
-abbrev pub entries : {Z : Type 0} → List (Resource × Arc GraphData Z) → List (Resource × GraphData)
+-- shared values, each under its key, as data
+abbrev pub entries : {K V Z : Type 0} → List (K × Arc V Z) → List (K × V)
 entries shared = map (λ entry. (entry.0, arc_value entry.1)) shared
 
 -- what writes that led to these rows bring a resource's graph

@@ -56,6 +56,7 @@ impl<R: RowStore> Desk<R> {
             n: 0,
             rows: Arc::try_clone(&base)?,
             graphs: Vec::new(alloc),
+            tables: Vec::new(alloc),
         };
         Ok(Desk {
             base,
@@ -75,8 +76,9 @@ impl<R: RowStore> Desk<R> {
 
     /// Accepts an import whole, or refuses it and leaves the book as it was. One that is known gets its receipt again.
     ///
-    /// Costs what `compile` and the store's `with` cost, one look at each batch that is kept, and two searches for each
-    /// declared resource, whose graph the next version shares.
+    /// Costs what `compile` and the store's `with` cost, one look at each batch that is kept, two searches for each
+    /// declared resource, whose graph the next version shares, a look at each write for each network, and a range table
+    /// for each network whose prefixes are written.
     pub fn edit(
         &mut self,
         alloc: Global,

@@ -4,17 +4,21 @@ ghost use Rattle.alto_rows.specs.Rows.{after};
 ghost use Rattle.alto_book.specs.Book.{Book};
 ghost use Rattle.alto_book.specs.Legal.{IsLegal};
 ghost use Rattle.alto_book.specs.Acceptance.{with_batch};
-ghost use Rattle.alto_desk.specs.Front.{StandsFor, graph_in};
+ghost use Rattle.alto_desk.specs.Front.{StandsFor, graph_in, table_in};
 
 use crate::graphs::{graphs_after, is_same};
+use crate::tables::{table_of, tables_after};
+use alto_names::NetName;
 use alto_rows::{Batch, Resource, RowStore};
+use pid_prefix::RangeTable;
 use std::alloc::{AllocError, Global};
 use std::marker::Model;
 use std::sync::Arc;
 use tips_graph::Graph;
 
-/// A version: the rows after some number of batches, and the updates graphs that they have led to. It never changes, and
-/// readers share it. A contract sees the number, the rows and the graphs.
+/// A version: the rows after some number of batches, the updates graphs that they have led to, and the range tables of
+/// their prefixes. It never changes, and readers share it. A contract sees the number, the rows, the graphs, and the
+/// prefixes of the tables.
 #[derive(Drop)]
 pub struct Front<R: RowStore> {
     /// How many batches led to it.
@@ -23,6 +27,8 @@ pub struct Front<R: RowStore> {
     pub rows: Arc<R>,
     /// The updates graph of each declared resource, in the order of resources.
     pub graphs: Vec<(Resource, Arc<Graph<R>>)>,
+    /// The range table of each declared network, in the order of their names.
+    pub tables: Vec<(NetName, Arc<RangeTable>)>,
 }
 
 impl<R: RowStore> Model for Front<R> {
@@ -32,8 +38,12 @@ impl<R: RowStore> Model for Front<R> {
 
     ghost Value = { Version };
 
-    ghost view = { λ front.
-        record { n = front.n; rows = R.rows (arc_value front.rows); graphs = entries front.graphs.items } };
+    ghost view = { λ front. record {
+      n = front.n;
+      rows = R.rows (arc_value front.rows);
+      graphs = entries front.graphs.items;
+      tables = entries front.tables.items;
+    } };
 }
 
 impl<R: RowStore> Front<R> {
@@ -49,6 +59,14 @@ impl<R: RowStore> Front<R> {
         None
     }
 
+    /// The range table of a network's prefixes, where the network is declared. Linear in the number of networks.
+    pub fn table(&self, net: &NetName) -> Option<&RangeTable>
+        ensures { option_map (λ table. table.now) result ≡ table_in self.now.tables net.now }
+    {
+        let table = table_of(&self.tables, net)?;
+        Some(table)
+    }
+
     /// The version after one batch more. It shares what the batch left.
     pub(crate) fn with(&self, alloc: Global, batch: &Batch) -> Result<Front<R>, AllocError>
         requires room { self.now.n < 2 ^ 63 }
@@ -58,10 +76,12 @@ impl<R: RowStore> Front<R> {
     {
         let rows = Arc::new(alloc, self.rows.with(alloc, &batch.writes)?)?;
         let graphs = graphs_after(alloc, &self.graphs, &rows, &batch.writes)?;
+        let tables = tables_after(alloc, &self.tables, &*rows, &batch.writes)?;
         Ok(Front {
             n: self.n + 1,
             rows,
             graphs,
+            tables,
         })
     }
 }

@@ -2,7 +2,7 @@
 //!
 //! ```text
 //! import ──▶ Desk::edit ──▶ receipt
-//!              │ compile, with            Front { n, rows, graphs }  ◀── Desk::front ── every reader
+//!              │ compile, with        Front { n, rows, graphs, tables }  ◀── Desk::front ── every reader
 //!              └────────────────────────▶ a new one for each batch; what no write touched is shared
 //! ```
 #![tactic(auto)]
@@ -12,6 +12,7 @@ mod front;
 mod graphs;
 mod known;
 mod resources;
+mod tables;
 
 pub use alto_book::{Command, EditFault, Receipt};
 pub use desk::Desk;

@@ -29,7 +29,7 @@ pub(crate) fn resources_of<R: RowStore>(
 }
 
 /// The declared networks, in the order of their names.
-fn nets_of<R: RowStore>(alloc: Global, rows: &R) -> Result<Vec<NetName>, AllocError>
+pub(crate) fn nets_of<R: RowStore>(alloc: Global, rows: &R) -> Result<Vec<NetName>, AllocError>
     ensures { IfOk result (λ nets. nets.items ≡ spec.nets_of (R.rows rows.now)) }
 {
     let mut nets = Vec::new(alloc);
