@@ -2,5 +2,7 @@ pub mod AuthorityLemmas
 pub mod EdgeLemmas
 pub mod EdgeNumberLemmas
 pub mod HeldLemmas
+pub mod LookupLemmas
+pub mod NamedLemmas
 pub mod UniqueLemmas
 pub mod ViewLemmas

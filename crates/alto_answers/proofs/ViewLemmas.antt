@@ -1,19 +1,9 @@
--- The graph of the resource whose view is opened.
+-- The reply to what opening a view came to.
 use Rattle.std.proofs.Common.{◌≡◌, ◌≢◌, ℕ, List, Result, Ok, Err, IfOk, IfErr, ap, sym, ◌∙◌}
-use Rattle.alto_rows.specs.declared.resource.Resource.TheVariants as resource
-use Rattle.alto_book.specs.Book.{Book}
-use Rattle.alto_desk.specs.Front.{Version, StandsFor, graph_in}
 use Rattle.alto_asks.specs.declared.fault.AskFault.{AskFault}
 use Rattle.alto_asks.specs.declared.fault.AskFault.TheVariants as fault
 use Rattle.alto_replies.specs.Errors.{reply_or_error}
 use Rattle.alto_replies.specs.Reply.{ReplyData}
-use Rattle.alto_answers.specs.Tips.{net_graph}
-use Rattle.alto_answers.proofs.EdgeLemmas.{graph_in_version}
-
--- the graph that a version has of a network's map is that of the network which a text names
-pub named_map : (version : Version) (book : Book) (net : List ℕ) → StandsFor version book
-    → net_graph book (Ok net) ≡ graph_in version.graphs (resource.Net net)
-named_map version book net stands = sym (graph_in_version version book (resource.Net net) stands)
 
 -- two facts of a value, and what follows from both
 pub if_ok_both : {T E : Type 0} {P Q R : T → Type 0} (r : Result T E) → ((x : T) → P x → Q x → R x) → IfOk r P → IfOk r Q → IfOk r R

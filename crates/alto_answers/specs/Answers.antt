@@ -1,14 +1,15 @@
 -- What a request comes to at a version: first its route, then its method, its content type, the resource, the body.
-use Rattle.std.specs.Prelude.{◌≡◌, ℕ, List, Option, Some, None, Result, Ok, Err, if◌then◌else◌, codes, All}
+use Rattle.std.specs.Prelude.{◌≡◌, ℕ, List, Option, Some, None, Result, Ok, Err, codes, All}
 use Rattle.sha2.specs.Sha256.{sha256}
 use Rattle.alto_names.specs.declared.label.NameFault.{NameFault}
-use Rattle.alto_names.specs.Name.{named, is_net_byte, is_import_byte}
-use Rattle.alto_rows.specs.declared.key.Key.TheVariants as key
-use Rattle.alto_rows.specs.Rows.{Rows, has_row}
+use Rattle.alto_names.specs.Name.{named, is_import_byte}
+use Rattle.alto_rows.specs.declared.resource.Resource.{Resource}
+use Rattle.alto_rows.specs.Ids.{resource_named}
+use Rattle.alto_rows.specs.Rows.{Rows}
 use Rattle.alto_book.specs.Book.{Book, rows_of}
 use Rattle.alto_edits.specs.declared.edit.Edit.{Edit}
 use Rattle.alto_edits.specs.Edits.{IsEdit}
-use Rattle.net_docs.specs.NetworkMap.{network_map}
+use Rattle.edge_patch.specs.Documents.{document}
 use Rattle.edit_forms.specs.declared.fault.FormFault.{FormFault}
 use Rattle.alto_http.specs.Request.{RequestData}
 use Rattle.alto_http.specs.declared.request.Verb.{Verb}
@@ -23,29 +24,24 @@ use Rattle.alto_replies.specs.Replies.{document_reply, status_alone, not_found, 
 use Rattle.alto_answers.specs.Routes.{place_of}
 use Rattle.alto_answers.specs.Target.{path_of, segment}
 use Rattle.alto_answers.specs.Tips.{tips_answer}
-use Rattle.alto_answers.specs.Types.{network_map_type}
+use Rattle.alto_answers.specs.Types.{media_type_of}
 use Rattle.alto_answers.specs.Accept.{patch_form}
 use Rattle.alto_answers.specs.Edges.{edges_answer}
-use Rattle.alto_answers.specs.FilterNet.{filter_net_answer}
 use Rattle.alto_answers.specs.Forms.{Reads, form_of}
+use Rattle.alto_answers.specs.Lookup.{LookupAnswer}
+use Rattle.alto_answers.specs.Queries.{net_segment, query_answer}
 use Rattle.alto_answers.specs.declared.form.Form.{Form}
 
--- the map of a network, if it is declared
-abbrev pub net_reply : Rows → List ℕ → ReplyData
-net_reply rows net =
-    if has_row rows (key.Net net) then document_reply network_map_type (network_map rows net)
-    else not_found (codes "resource")
-
--- the document of a resource, if the text names one
-abbrev pub map_reply : Rows → Result (List ℕ) NameFault → ReplyData
-map_reply rows (Err fault) = not_found (codes "resource")
-map_reply rows (Ok net) = net_reply rows net
+-- the document of the resource that a text names, if it names one
+abbrev pub map_reply : Rows → Option Resource → ReplyData
+map_reply rows (Some of) = document_reply (media_type_of of) (document of rows)
+map_reply rows None = not_found (codes "resource")
 
 -- `/maps/{resource}`: the document of a resource
 abbrev pub maps_answer : Verb → Rows → List ℕ → Answer
-maps_answer verb.Get rows resource = answer.Reply (map_reply rows (named is_net_byte 24 resource))
-maps_answer verb.Post rows resource = answer.Reply (wrong_method verb.Get)
-maps_answer verb.Other rows resource = answer.Reply (wrong_method verb.Get)
+maps_answer verb.Get rows text = answer.Reply (map_reply rows (resource_named rows text))
+maps_answer verb.Post rows text = answer.Reply (wrong_method verb.Get)
+maps_answer verb.Other rows text = answer.Reply (wrong_method verb.Get)
 
 -- the import of a body, or the fault of its form
 abbrev pub import_of : List ℕ → List ℕ → Result (List Edit) FormFault → Answer
@@ -75,8 +71,12 @@ abbrev pub PlaceAnswers : Option Place → RequestData → Book → Answer → T
 PlaceAnswers None request book given = given ≡ answer.Reply (not_found (codes "route"))
 PlaceAnswers (Some place.Maps) request book given =
     given ≡ maps_answer request.verb (rows_of book) (segment (path_of request.target) 2)
-PlaceAnswers (Some place.FilterNet) request book given =
-    given ≡ filter_net_answer request.verb request.content_type (rows_of book) (segment (path_of request.target) 3) request.body
+PlaceAnswers (Some place.Lookup) request book given =
+    let path = path_of request.target in
+    LookupAnswer request.verb (rows_of book) (segment path 2) (segment path 3) given
+PlaceAnswers (Some (place.Query of)) request book given =
+    let text = segment (path_of request.target) (net_segment of) in
+    given ≡ query_answer of request.verb request.content_type (rows_of book) text request.body
 PlaceAnswers (Some place.Tips) request book given =
     given ≡ tips_answer request.verb request.content_type book request.host request.body
 PlaceAnswers (Some place.Edge) request book given =

@@ -1,11 +1,9 @@
 -- Edges of updates graphs, asked for by their numbers (RFC 9569, section 7).
-use Rattle.std.specs.Prelude.{ℕ, Bool, false, not, ◌&&◌, ◌==◌, nat_le, List, ◌∷◌, length, Option, Some, None, Result, Ok, Err, if◌then◌else◌, codes}
+use Rattle.std.specs.Prelude.{ℕ, Bool, false, not, ◌&&◌, ◌==◌, nat_le, List, ◌∷◌, length, Option, Some, None, if◌then◌else◌, codes}
 use Rattle.std.specs.Str.Parse.{digits_value}
-use Rattle.alto_names.specs.declared.label.NameFault.{NameFault}
-use Rattle.alto_names.specs.Name.{named, is_net_byte}
 use Rattle.alto_rows.specs.declared.resource.Resource.{Resource}
-use Rattle.alto_rows.specs.declared.resource.Resource.TheVariants as resource
-use Rattle.alto_rows.specs.Versions.{is_declared, version_of}
+use Rattle.alto_rows.specs.Ids.{resource_named}
+use Rattle.alto_rows.specs.Versions.{version_of}
 use Rattle.alto_book.specs.Book.{Book, rows_of}
 use Rattle.alto_book.specs.Numbers.{first_kept, status_at}
 use Rattle.alto_book.specs.Walks.{Content, content_data, document, edge_content, merge_patch, operations}
@@ -60,25 +58,19 @@ edge_by Awaited book of form i j = answer.Hold of i j
 edge_by Ahead book of form i j = answer.Reply (too_early (version_of (rows_of book) of))
 edge_by Here book of form i j = answer.Reply (edge_reply book of form i j)
 
--- the edge of a declared resource between two numbers, if they are numbers
+-- the edge of a resource between two numbers, if they are numbers
 abbrev pub numbered_edge : Book → Resource → PatchForm → Option ℕ → Option ℕ → Answer
 numbered_edge book of form (Some i) (Some j) = edge_by (status_at book of i j) book of form i j
 numbered_edge book of form (Some i) None = answer.Reply (not_found (codes "edge"))
 numbered_edge book of form None j = answer.Reply (not_found (codes "edge"))
 
--- the edge of a resource, if it is declared
-abbrev pub declared_edge : Book → Resource → PatchForm → List ℕ → List ℕ → Answer
-declared_edge book of form i j =
-    if is_declared (rows_of book) of then numbered_edge book of form (edge_number i) (edge_number j)
-    else answer.Reply (not_found (codes "resource"))
-
--- the edge of the network map that a text names
-abbrev pub net_edge : Book → Result (List ℕ) NameFault → PatchForm → List ℕ → List ℕ → Answer
-net_edge book (Err fault) form i j = answer.Reply (not_found (codes "resource"))
-net_edge book (Ok net) form i j = declared_edge book (resource.Net net) form i j
+-- the edge of the resource that a text names, if it names one
+abbrev pub named_edge : Book → Option Resource → PatchForm → List ℕ → List ℕ → Answer
+named_edge book (Some of) form i j = numbered_edge book of form (edge_number i) (edge_number j)
+named_edge book None form i j = answer.Reply (not_found (codes "resource"))
 
 -- `/tips/{resource}/ug/{i}/{j}`: an edge of a resource, a patch in the form that the client takes
 abbrev pub edges_answer : Verb → Book → PatchForm → List ℕ → List ℕ → List ℕ → Answer
-edges_answer verb.Get book form resource i j = net_edge book (named is_net_byte 24 resource) form i j
+edges_answer verb.Get book form resource i j = named_edge book (resource_named (rows_of book) resource) form i j
 edges_answer verb.Post book form resource i j = answer.Reply (wrong_method verb.Get)
 edges_answer verb.Other book form resource i j = answer.Reply (wrong_method verb.Get)

@@ -2,10 +2,11 @@ pub mod Accept
 pub mod Answers
 pub mod Authority
 pub mod Edges
-pub mod FilterNet
 pub mod Forms
 pub mod Graphs
+pub mod Lookup
 pub mod Opening
+pub mod Queries
 pub mod Routes
 pub mod Target
 pub mod Tips

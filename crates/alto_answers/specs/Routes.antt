@@ -9,6 +9,7 @@ use Rattle.matchit.specs.Seek.{first}
 use Rattle.matchit.specs.declared.error.InsertError.{InsertError}
 use Rattle.alto_answers.specs.declared.route.Place.{Place}
 use Rattle.alto_answers.specs.declared.route.Place.TheVariants as place
+use Rattle.alto_answers.specs.declared.route.Query.TheVariants as query
 use Rattle.alto_answers.specs.declared.route.Side.{Side}
 use Rattle.alto_answers.specs.declared.route.Side.TheVariants as side
 
@@ -16,7 +17,9 @@ use Rattle.alto_answers.specs.declared.route.Side.TheVariants as side
 abbrev pub public_routes : List (List ℕ × Place)
 public_routes =
     (codes "/maps/{resource}", place.Maps)
-    ∷ (codes "/filter/net/{net}", place.FilterNet)
+    ∷ (codes "/lookup/{net}/{address}", place.Lookup)
+    ∷ (codes "/filter/net/{net}", place.Query query.NetworkMap)
+    ∷ (codes "/filter/cost/{net}", place.Query query.CostMap)
     ∷ (codes "/tips", place.Tips)
     ∷ (codes "/tips/{resource}/ug/{i}/{j}", place.Edge)
     ∷ []

@@ -1,9 +1,7 @@
 -- Opening the view of a resource (RFC 9569, section 6).
-use Rattle.std.specs.Prelude.{ℕ, List, Option, Some, None, Result, Ok, Err, if◌then◌else◌, codes}
-use Rattle.alto_names.specs.declared.label.NameFault.{NameFault}
-use Rattle.alto_names.specs.Name.{named, is_net_byte}
-use Rattle.alto_rows.specs.declared.resource.Resource.TheVariants as resource
-use Rattle.alto_rows.specs.Versions.{epoch_of, is_declared}
+use Rattle.std.specs.Prelude.{ℕ, List, Option, option_map, if◌then◌else◌, codes}
+use Rattle.alto_rows.specs.Ids.{resource_named}
+use Rattle.alto_rows.specs.Versions.{epoch_of}
 use Rattle.alto_book.specs.Book.{Book, rows_of}
 use Rattle.alto_book.specs.Numbers.{updates_graph}
 use Rattle.alto_http.specs.declared.request.Verb.{Verb}
@@ -19,15 +17,9 @@ use Rattle.alto_replies.specs.Replies.{status_alone, wrong_method}
 abbrev pub ask_type : List ℕ
 ask_type = codes "application/alto-tipsparams+json"
 
--- the updates graph of a network's map, where the network is declared
-abbrev pub net_graph : Book → Result (List ℕ) NameFault → Option GraphData
-net_graph book (Err fault) = None
-net_graph book (Ok net) =
-    if is_declared (rows_of book) (resource.Net net) then Some (updates_graph book (resource.Net net)) else None
-
--- the updates graph of the resource that a text names, if it names a declared one
+-- the updates graph of the resource that a text names, if it names one
 abbrev pub graph_named : Book → List ℕ → Option GraphData
-graph_named book text = net_graph book (named is_net_byte 24 text)
+graph_named book text = option_map (updates_graph book) (resource_named (rows_of book) text)
 
 -- `/tips`: the view of a resource
 abbrev pub tips_answer : Verb → Option (List ℕ) → Book → Option (List ℕ) → List ℕ → Answer

@@ -7,9 +7,10 @@ ghost use Rattle.alto_answers.specs.Graphs.{IsVersion};
 
 use crate::edges::edges;
 use crate::edits::edits;
-use crate::filter_net::filter_net_answer;
+use crate::lookup::lookup;
 use crate::maps::maps;
 use crate::outcome::Answer;
+use crate::queries::query;
 use crate::route::Place;
 use crate::routes::Routes;
 use crate::target::path_of;
@@ -40,7 +41,8 @@ pub fn answer<R: RowStore>(
     match routes.place(path) {
         None => Ok(Answer::Reply(not_found(alloc, "route")?)),
         Some(Place::Maps) => maps(alloc, &*front.rows, request.verb, path),
-        Some(Place::FilterNet) => filter_net_answer(alloc, &*front.rows, request, path),
+        Some(Place::Lookup) => lookup(alloc, front, request.verb, path),
+        Some(Place::Query(of)) => query(alloc, &*front.rows, request, of, path),
         Some(Place::Tips) => tips(alloc, front, request),
         Some(Place::Edge) => edges(alloc, front, request, path),
         Some(Place::Edits) => edits(alloc, request, path),

@@ -1,23 +1,22 @@
 //! Edges of updates graphs, asked for by their numbers (RFC 9569, section 7).
 ghost use Rattle.std.specs.Prelude.{◌≡◌, ℕ, true, IfOk};
 ghost use Rattle.std.specs.Str.Parse.{digits_value};
-ghost use Rattle.alto_names.specs.Name.{named, is_net_byte};
-ghost use Rattle.alto_rows.specs.declared.resource.Resource.TheVariants as resource;
 ghost use Rattle.alto_rows.specs.Good.{AreGood};
+ghost use Rattle.alto_rows.specs.Ids.{resource_named};
 ghost use Rattle.alto_rows.specs.Versions.{is_declared};
-ghost use Rattle.alto_book.specs.Book.{Book};
+ghost use Rattle.alto_book.specs.Book.{Book, rows_of};
 ghost use Rattle.alto_book.specs.Legal.{IsLegal};
+ghost use Rattle.alto_book.specs.NumberLaws.{TellsNumbers};
 ghost use Rattle.alto_book.specs.Numbers.{status_at};
 ghost use Rattle.alto_book.specs.Walks.{patch};
 ghost use Rattle.alto_desk.specs.Front.{StandsFor};
-ghost use Rattle.edge_patch.specs.Documents.{has_document};
 ghost use Rattle.tips_graph.specs.declared.status.EdgeStatus.TheVariants.{Here};
 ghost use Rattle.alto_answers.specs.Accept.{patch_form};
 ghost use Rattle.alto_answers.specs.Answers.{HasBytes};
 ghost use Rattle.alto_replies.specs.Reply.{IsReply};
-ghost use Rattle.alto_answers.specs.Edges.{content_reply, declared_edge, edge_by, edge_number, edge_reply, edges_answer};
-ghost use Rattle.alto_answers.specs.Edges.{has_leading_zero, is_edge_number, net_edge, numbered_edge};
-ghost use Rattle.alto_answers.specs.Graphs.{IsGraphOf, IsVersion};
+ghost use Rattle.alto_answers.specs.Edges.{content_reply, edge_by, edge_number, edge_reply, edges_answer};
+ghost use Rattle.alto_answers.specs.Edges.{has_leading_zero, is_edge_number, named_edge, numbered_edge};
+ghost use Rattle.alto_answers.specs.Graphs.{IsVersion};
 ghost use Rattle.alto_answers.specs.Target.{segment};
 
 use crate::accept::patch_form;
@@ -26,9 +25,8 @@ use crate::target::segment;
 use crate::types::{JSON_PATCH, MERGE_PATCH, media_type};
 use alto_desk::Front;
 use alto_http::{Request, Verb, is_decimal};
-use alto_names::{NameFault, NetName};
 use alto_replies::{Reply, document_reply, gone, not_found, ok_reply, too_early, wrong_method};
-use alto_rows::{Key, Resource, RowStore};
+use alto_rows::{Key, Resource, RowStore, find_resource};
 use edge_patch::{PatchForm, document_text, json_edge, merge_edge};
 use json_patch::ops_tree;
 use std::alloc::{AllocError, Global};
@@ -55,14 +53,14 @@ pub(crate) fn edges<R: RowStore>(
             let resource = segment(alloc, path, 2)?;
             let i = segment(alloc, path, 4)?;
             let j = segment(alloc, path, 5)?;
-            net_edge(alloc, front, &resource, patch_form(request), &i, &j)
+            named_edge(alloc, front, &resource, patch_form(request), &i, &j)
         }
         Verb::Post | Verb::Other => Ok(Answer::Reply(wrong_method(alloc, Verb::Get)?)),
     }
 }
 
-/// The edge of a network map, if the network is declared.
-fn net_edge<R: RowStore>(
+/// The edge of the resource that a text names, if it names one.
+fn named_edge<R: RowStore>(
     alloc: Global,
     front: &Front<R>,
     resource: &[u8],
@@ -73,33 +71,15 @@ fn net_edge<R: RowStore>(
     requires { IsVersion front.now }
     ensures has_bytes { IfOk result HasBytes }
     ensures answer { IfOk result (λ answer. (book : Book) → IsLegal book → StandsFor front.now book
-        → answer ≡ net_edge book (named is_net_byte 24 resource.now) form i.now j.now) }
+        → answer ≡ named_edge book (resource_named (rows_of book) resource.now) form i.now j.now) }
 {
-    match NetName::read(alloc, resource) {
-        Ok(net) => declared_edge(alloc, front, Resource::Net(net), form, i, j),
-        Err(NameFault::Memory) => Err(AllocError),
-        Err(_) => Ok(Answer::Reply(not_found(alloc, "resource")?)),
-    }
-}
-
-fn declared_edge<R: RowStore>(
-    alloc: Global,
-    front: &Front<R>,
-    resource: Resource,
-    form: PatchForm,
-    i: &[u8],
-    j: &[u8],
-) -> Result<Answer, AllocError>
-    requires version { IsVersion front.now }
-    requires documents { has_document resource ≡ true }
-    ensures has_bytes { IfOk result HasBytes }
-    ensures answer { IfOk result (λ answer. (book : Book) → IsLegal book → StandsFor front.now book
-        → answer ≡ declared_edge book resource form i.now j.now) }
-{
-    match front.graph(&resource) {
-        Some(graph) => numbered_edge(alloc, graph, resource, form, edge_number(i), edge_number(j)),
-        None => Ok(Answer::Reply(not_found(alloc, "resource")?)),
-    }
+    let Some(of) = find_resource(alloc, &*front.rows, resource)? else {
+        return Ok(Answer::Reply(not_found(alloc, "resource")?));
+    };
+    let Some(graph) = front.graph(&of) else {
+        unreachable!();
+    };
+    numbered_edge(alloc, graph, of, form, edge_number(i), edge_number(j))
 }
 
 /// The edge between two numbers, if they are numbers.
@@ -111,9 +91,9 @@ fn numbered_edge<R: RowStore>(
     i: Option<u64>,
     j: Option<u64>,
 ) -> Result<Answer, AllocError>
-    requires { (book : Book) × IsGraphOf graph.now book resource }
+    requires { (book : Book) × TellsNumbers graph.now book resource }
     ensures has_bytes { IfOk result HasBytes }
-    ensures answer { IfOk result (λ answer. (book : Book) → IsGraphOf graph.now book resource
+    ensures answer { IfOk result (λ answer. (book : Book) → TellsNumbers graph.now book resource
         → answer ≡ numbered_edge book resource form i j) }
 {
     let Some(i) = i else {
@@ -134,9 +114,9 @@ fn edge_by<R: RowStore>(
     i: u64,
     j: u64,
 ) -> Result<Answer, AllocError>
-    requires { (book : Book) × IsGraphOf graph.now book resource }
+    requires { (book : Book) × TellsNumbers graph.now book resource }
     ensures has_bytes { IfOk result HasBytes }
-    ensures answer { IfOk result (λ answer. (book : Book) → IsGraphOf graph.now book resource
+    ensures answer { IfOk result (λ answer. (book : Book) → TellsNumbers graph.now book resource
         → answer ≡ edge_by (status_at book resource i j) book resource form i j) }
 {
     match graph.status(i, j) {
@@ -157,9 +137,9 @@ fn edge_reply<R: RowStore>(
     i: u64,
     j: u64,
 ) -> Result<Reply, AllocError>
-    requires { (book : Book) × IsGraphOf graph.now book resource.now × (status_at book resource.now i j ≡ Here) }
+    requires { (book : Book) × TellsNumbers graph.now book resource.now × (status_at book resource.now i j ≡ Here) }
     ensures has_bytes { IfOk result IsReply }
-    ensures reply { IfOk result (λ reply. (book : Book) → IsGraphOf graph.now book resource.now
+    ensures reply { IfOk result (λ reply. (book : Book) → TellsNumbers graph.now book resource.now
         → reply ≡ edge_reply book resource.now form i j) }
 {
     let Some(rows) = graph.rows_at(j) else {
@@ -187,7 +167,6 @@ fn patch_reply<R: RowStore>(
     requires good_before { AreGood (R.rows before.now) }
     requires good { AreGood (R.rows after.now) }
     requires declared { is_declared (R.rows after.now) resource.now ≡ true }
-    requires kind { has_document resource.now ≡ true }
     ensures has_bytes { IfOk result IsReply }
     ensures reply { IfOk result (λ reply. reply
         ≡ content_reply resource.now (patch form resource.now (R.rows before.now) (R.rows after.now) keys.now)) }

@@ -14,12 +14,23 @@ pub enum Side {
 pub enum Place {
     /// `/maps/{resource}`: the document of a resource.
     Maps,
-    /// `/filter/net/{net}`: a filtered network map.
-    FilterNet,
+    /// `/lookup/{net}/{address}`: the PID of an address in a network.
+    Lookup,
+    /// A query of a network by a body.
+    Query(Query),
     /// `/tips`: the view of a resource.
     Tips,
     /// `/tips/{resource}/ug/{i}/{j}`: an edge of a resource's updates graph.
     Edge,
     /// `/edits/{id}`: an import.
     Edits,
+}
+
+/// What a body may ask of a network.
+#[derive(Clone, Copy, Debug, PartialEq, Eq)]
+pub enum Query {
+    /// `/filter/net/{net}`: a filtered network map.
+    NetworkMap,
+    /// `/filter/cost/{net}`: a filtered cost map.
+    CostMap,
 }

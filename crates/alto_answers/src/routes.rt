@@ -4,7 +4,7 @@ ghost use Rattle.matchit.specs.Seek.{first};
 ghost use Rattle.alto_answers.specs.declared.route.Side.TheVariants as side;
 ghost use Rattle.alto_answers.specs.Routes.{fits, with_route, router_of, place_of};
 
-use crate::route::{Place, Side};
+use crate::route::{Place, Query, Side};
 use matchit::{InsertError, Router};
 use std::alloc::{AllocError, Global};
 use std::marker::Model;
@@ -12,7 +12,11 @@ use std::str;
 
 const MAPS: &str = "/maps/{resource}";
 
+const LOOKUP: &str = "/lookup/{net}/{address}";
+
 const FILTER_NET: &str = "/filter/net/{net}";
+
+const FILTER_COST: &str = "/filter/cost/{net}";
 
 const TIPS: &str = "/tips";
 
@@ -77,7 +81,9 @@ fn public_router(alloc: Global) -> Result<Router<Place>, AllocError>
 {
     let mut router = Router::new(alloc);
     add(&mut router, MAPS, Place::Maps)?;
-    add(&mut router, FILTER_NET, Place::FilterNet)?;
+    add(&mut router, LOOKUP, Place::Lookup)?;
+    add(&mut router, FILTER_NET, Place::Query(Query::NetworkMap))?;
+    add(&mut router, FILTER_COST, Place::Query(Query::CostMap))?;
     add(&mut router, TIPS, Place::Tips)?;
     add(&mut router, EDGE, Place::Edge)?;
     Ok(router)

@@ -16,9 +16,8 @@ use crate::outcome::Answer;
 use alto_asks::{AskFault, read_ask};
 use alto_desk::Front;
 use alto_http::{Request, Verb};
-use alto_names::{NameFault, NetName};
 use alto_replies::{Reply, reply_or_error, status_alone, wrong_method};
-use alto_rows::{Resource, RowStore};
+use alto_rows::{RowStore, find_resource};
 use net_docs::epoch;
 use std::alloc::{AllocError, Global};
 use tips_graph::Graph;
@@ -93,18 +92,18 @@ fn open<R: RowStore>(alloc: Global, front: &Front<R>, request: &Request) -> Resu
     }
 }
 
-/// The updates graph of the resource that a text names, if it names a declared one.
+/// The updates graph of the resource that a text names, if it names one.
 fn graph_named<'f, R: RowStore>(
     alloc: Global,
     front: &'f Front<R>,
     text: &str,
 ) -> Result<Option<&'f Graph<R>>, AllocError>
-    ensures { IfOk result (λ found. (book : Book) → StandsFor front.now book
+    requires { IsVersion front.now }
+    ensures { IfOk result (λ found. (book : Book) → IsLegal book → StandsFor front.now book
         → graph_named book text.now ≡ option_map (λ graph. graph.now) found) }
 {
-    match NetName::read(alloc, text.as_bytes()) {
-        Ok(net) => Ok(front.graph(&Resource::Net(net))),
-        Err(NameFault::Memory) => Err(AllocError),
-        Err(_) => Ok(None),
+    match find_resource(alloc, &*front.rows, text.as_bytes())? {
+        Some(of) => Ok(front.graph(&of)),
+        None => Ok(None),
     }
 }

@@ -8,7 +8,7 @@ use alto_rows::Resource;
 pub(crate) const NETWORK_MAP: &str = "application/alto-networkmap+json";
 
 /// The media type of a cost map (RFC 7285, section 11.2.3.1).
-const COST_MAP: &str = "application/alto-costmap+json";
+pub(crate) const COST_MAP: &str = "application/alto-costmap+json";
 
 /// The media type of a property map (RFC 9240, section 7.1).
 const PROPERTY_MAP: &str = "application/alto-propmap+json";

@@ -1,7 +1,8 @@
 mod imports;
+mod maps;
 
 use crate::run::run;
-use alto_answers::{Place, Routes, Side};
+use alto_answers::{Place, Query, Routes, Side};
 use alto_book::EditFault;
 use alto_http::MemLink;
 use alto_replies::{edit_reply, reply_bytes};
@@ -48,7 +49,7 @@ GET /tips/metro/ug/0/4 | | | 425 Too Early | json | {"end-seq":3,"status":425}
 GET /tips/metro/ug/5/6 | | | 425 Too Early | json | {"end-seq":3,"status":425}
 GET /tips/metro/ug/3/4 | | | 425 Too Early | json | {"end-seq":3,"status":425}
 GET /tips/other/ug/0/1 | | | 404 Not Found | json | {"status":404,"why":"resource"}
-GET /tips/metro:prop/ug/0/1 | | | 404 Not Found | json | {"status":404,"why":"resource"}
+GET /tips/metro:prop/ug/0/1 | | | 200 OK | alto-propmap+json | {"meta":{"dependent-vtags":[{"resource-id":"metro","tag":"e1-1"}]},"property-map":{}}
 GET /tips/metro/ug/1 | | | 404 Not Found | json | {"status":404,"why":"route"}
 POST /tips | Content-Type: application/alto-tipsparams+json; a=b~ | {"resource-id":"metro","tag":"e1-2"} | 200 OK | alto-tips+json | {"tips-view-summary":{"updates-graph-summary":{"end-seq":3,"start-edge-rec":{"seq-i":2,"seq-j":3},"start-seq":1}},"tips-view-uri":"http://localhost/tips/metro"}
 POST /tips | Host: alto.example:8080~Content-Type: application/alto-tipsparams+json~ | {"resource-id":"metro","tag":"e1-3"} | 200 OK | alto-tips+json | {"tips-view-summary":{"updates-graph-summary":{"end-seq":3,"start-edge-rec":{"seq-i":3,"seq-j":4},"start-seq":1}},"tips-view-uri":"http://alto.example:8080/tips/metro"}
@@ -58,7 +59,7 @@ POST /tips | Content-Type: application/alto-tipsparams+json~ | {"resource-id":"m
 POST /tips | Content-Type: application/alto-tipsparams+json~ | {"a":1.5,"resource-id":"metro"} | 400 Bad Request | alto-error+json | {"meta":{"code":"E_SYNTAX"}}
 POST /tips | Content-Type: application/alto-tipsparams+json~ | {"tag":7} | 400 Bad Request | alto-error+json | {"meta":{"code":"E_MISSING_FIELD","field":"resource-id"}}
 POST /tips | Content-Type: application/alto-tipsparams+json~ | {"resource-id":7,"tag":7} | 400 Bad Request | alto-error+json | {"meta":{"code":"E_INVALID_FIELD_TYPE","field":"resource-id"}}
-POST /tips | Content-Type: application/alto-tipsparams+json~ | {"resource-id":"metro:prop","tag":7} | 400 Bad Request | alto-error+json | {"meta":{"code":"E_INVALID_FIELD_VALUE","field":"resource-id","value":"metro:prop"}}
+POST /tips | Content-Type: application/alto-tipsparams+json~ | {"resource-id":"metro:props","tag":7} | 400 Bad Request | alto-error+json | {"meta":{"code":"E_INVALID_FIELD_VALUE","field":"resource-id","value":"metro:props"}}
 POST /tips | Content-Type: application/alto-tipsparams+json~ | {"resource-id":"metro","tag":7} | 400 Bad Request | alto-error+json | {"meta":{"code":"E_INVALID_FIELD_TYPE","field":"tag"}}
 POST /tips | Content-Type: application/json~ | {"resource-id":"metro"} | 415 Unsupported Media Type | json | {"status":415}
 PUT /maps/metro | | | 405 Method Not Allowed | json~Allow: GET | {"status":405}
@@ -126,6 +127,9 @@ const PATHS: &str = "/maps/metro | maps | none
 maps/metro | none | none
 /filter/net/metro | filter | none
 /filter/net/ | none | none
+/filter/cost/metro | costs | none
+/lookup/metro/ipv4:192.0.2.1 | lookup | none
+/lookup/metro/ | none | none
 /edits/i1 | none | edits
 /tips | tips | none
 /tips/ | none | none
@@ -277,7 +281,9 @@ fn word(place: Option<Place>) -> &'static str {
     match place {
         Some(Place::Maps) => "maps",
         Some(Place::Edits) => "edits",
-        Some(Place::FilterNet) => "filter",
+        Some(Place::Lookup) => "lookup",
+        Some(Place::Query(Query::NetworkMap)) => "filter",
+        Some(Place::Query(Query::CostMap)) => "costs",
         Some(Place::Tips) => "tips",
         Some(Place::Edge) => "edge",
         None => "none",

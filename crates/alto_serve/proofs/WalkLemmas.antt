@@ -3,14 +3,18 @@ use Rattle.std.proofs.Common.{◌≡◌, ℕ, zero, suc, Bool, true, false, ◌=
 use Rattle.std.proofs.lemmas.List.Sums.{fold-append}
 use Rattle.std.specs.Prelude.{slice_get, codes}
 use Rattle.alto_rows.specs.declared.resource.Resource.{Resource}
+use Rattle.alto_rows.specs.Good.{AreGood, IsResource}
+use Rattle.alto_rows.specs.Ids.{resource_id, resource_named}
+use Rattle.alto_rows.specs.Rows.{Rows}
 use Rattle.alto_rows.specs.Versions.{is_declared}
-use Rattle.edge_patch.specs.Documents.{has_document}
+use Rattle.alto_rows.proofs.IdLemmas.{names_if_declared, unambiguous}
 use Rattle.tips_graph.specs.declared.status.EdgeStatus.{EdgeStatus}
 use Rattle.tips_graph.specs.declared.status.EdgeStatus.TheVariants.{Absent, Gone, Awaited, Ahead, Here}
 use Rattle.alto_book.specs.Book.{Book, Extends, rows_of}
 use Rattle.alto_book.specs.Legal.{IsLegal}
 use Rattle.alto_book.specs.Numbers.{status_at}
 use Rattle.alto_book.specs.Walks as walks
+use Rattle.alto_book.proofs.StateLemmas.{good_rows}
 use Rattle.alto_book.proofs.WalkLemmas.{bodies_stay, walks_lead_on}
 use Rattle.alto_http.specs.Request.{RequestData}
 use Rattle.alto_http.specs.declared.request.Verb.{Verb}
@@ -18,7 +22,7 @@ use Rattle.alto_http.specs.declared.request.Verb.TheVariants as verb
 use Rattle.alto_replies.specs.Replies.{document_reply, not_found, wrong_method}
 use Rattle.alto_replies.specs.Reply.{ReplyData, bytes_of}
 use Rattle.alto_answers.specs.Answers.{AnswersTo}
-use Rattle.alto_answers.specs.Edges.{content_reply, edge_by, edge_reply, edges_answer}
+use Rattle.alto_answers.specs.Edges.{content_reply, edge_by, edge_reply, edges_answer, named_edge}
 use Rattle.alto_answers.specs.Target.{path_of, segment}
 use Rattle.alto_answers.specs.Accept.{patch_form}
 use Rattle.alto_answers.specs.declared.outcome.Answer.{Answer}
@@ -52,15 +56,30 @@ edge_for verb.Get look of edge = edge_if (is_declared (rows_of look) of) look of
 edge_for verb.Post look of edge = answer.Reply (wrong_method verb.Get)
 edge_for verb.Other look of edge = answer.Reply (wrong_method verb.Get)
 
+-- the id of a resource names it where it is declared
+named-by_id : (rows : Rows) (text : List ℕ) (of : Resource) → AreGood rows → IsResource of → resource_id of ≡ text
+    → resource_named rows text ≡ (if is_declared rows of then Some of else None)
+named-by_id rows text of good is id =
+    sym (names_if_declared rows text of good (λ other. (
+      λ both. ap (λ (x : Resource). Some x) (unambiguous of other is both.0 (id ∙ sym both.1)),
+      λ same. let one : of ≡ other = cc in (subst IsResource one is, ap resource_id (sym one) ∙ id),
+    )))
+
 -- what a request for an edge is answered
-answer-asked : (look : Book) (side : Side) (request : RequestData) (of : Resource) (edge : EdgeAsked) (met : Answer) → AsksEdge side request of edge
+answer-asked : (look : Book) (side : Side) (request : RequestData) (of : Resource) (edge : EdgeAsked) (met : Answer) → IsLegal look → AsksEdge side request of edge
     → AnswersTo request look side met → met ≡ edge_for request.verb look of edge
 unfolding AnswersTo
-answer-asked look side request of edge met a is = (rw a.routed at is) ∙ by request.verb
+answer-asked look side request of edge met legal a is = (rw a.routed at is) ∙ by request.verb
   where
+    if_declared : (b : Bool) → named_edge look (if b then Some of else None) (patch_form request.accept) (segment (path_of request.target) 4) (segment (path_of request.target) 5)
+        ≡ edge_if b look of edge
+    if_declared true = rw (a.from, a.to, a.accepts) refl
+    if_declared false = refl
+
     by : (v : Verb) → edges_answer v look (patch_form request.accept) (segment (path_of request.target) 2) (segment (path_of request.target) 4) (segment (path_of request.target) 5)
         ≡ edge_for v look of edge
-    by verb.Get = rw (a.names, a.from, a.to, a.accepts, a.map) refl
+    by verb.Get =
+        rw (named-by_id (rows_of look) (segment (path_of request.target) 2) of (good_rows look legal) a.resource a.id) (if_declared (is_declared (rows_of look) of))
     by verb.Post = refl
     by verb.Other = refl
 
@@ -87,11 +106,11 @@ answer_for verb.Get look of edge = by (is_declared (rows_of look) of) refl
 answer_for verb.Post look of edge = λ ok. absurd (omega (arith, ok))
 answer_for verb.Other look of edge = λ ok. absurd (omega (arith, ok))
 
-edge_answer : (look : Book) (side : Side) (request : RequestData) (of : Resource) (edge : EdgeAsked) (met : Answer) → AsksEdge side request of edge
+edge_answer : (look : Book) (side : Side) (request : RequestData) (of : Resource) (edge : EdgeAsked) (met : Answer) → IsLegal look → AsksEdge side request of edge
     → AnswersTo request look side met → IsEdgeAnswer look of edge met
-edge_answer look side request of edge met a is =
+edge_answer look side request of edge met legal a is =
     let P : Answer → Type 0 = λ met. IsEdgeAnswer look of edge met in
-    subst P (sym (answer-asked look side request of edge met a is)) (answer_for request.verb look of edge)
+    subst P (sym (answer-asked look side request of edge met legal a is)) (answer_for request.verb look of edge)
 
 -- ---- a turn
 
@@ -125,7 +144,7 @@ replied_had alone side request known (sees left book) events told (same, legal) 
       legal = history_legal alone known events may legal;
       look = known.seen;
       extends = history_extends alone known events may;
-      had = edge_answer known.seen side request of edge (answer.Reply told) a (subst A same answers) ok;
+      had = edge_answer known.seen side request of edge (answer.Reply told) legal a (subst A same answers) ok;
     }
 
 reaches_had : (alone : Bool) (side : Side) (request : RequestData) (known : Known) (stage last : Stage) (events rest : List Event) (told : ReplyData)
@@ -144,7 +163,7 @@ reaches_had alone side request known (sees left book) last (waited n ∷ events)
     reaches_had alone side request (known_after alone known (waited n)) (looks_next fewer) last events rest told
     tt (subst R is reached) replied may.1 of edge a ok
 reaches_had alone side request known (sees left book) last (entered look ∷ events) rest told at (next, (import, answers, is), reached) replied may of edge a ok =
-    absurd (edge_answer book side request of edge (answer.Edit import) a answers)
+    absurd (edge_answer book side request of edge (answer.Edit import) (subst IsLegal (sym at.0) at.1) a answers)
 reaches_had alone side request known (submits import) last (event ∷ events) rest told at reached replied may of edge a ok = absurd at
 reaches_had alone side request known (has_answer moment decided) last (event ∷ events) rest told at reached replied may of edge a ok = absurd at
 reaches_had alone side request known (looks_next left) last (entered book ∷ events) rest told at (next, goes, reached) replied may of edge a ok = absurd goes
@@ -219,7 +238,7 @@ walks_reach side exchanges book had = record {
   bodies = λ of edge reply answered. ap (λ (r : ReplyData). r.body) (reply-stays book of edge reply (had of edge reply answered));
   walks = λ of from at first edges held along start.
       walks_lead_on book of from at (edge_of book of first) (map (edge_of book of) edges) held
-      (had of first along.1.0 along.1.1).legal (ap has_document along.1.1.asked.map)
+      (had of first along.1.0 along.1.1).legal
       (walk_had side exchanges book of from (first ∷ edges) at had along) start;
 }
 

@@ -2,9 +2,9 @@
 use Rattle.std.specs.Prelude.{◌≡◌, ℕ, ◌≤◌, List, [], ◌∷◌, map, Some, Ok, slice_get}
 use Rattle.serde_json.specs.Data.{Data}
 use Rattle.serde_json.specs.Written.{compact_text}
-use Rattle.alto_names.specs.Name.{named, is_net_byte}
 use Rattle.alto_rows.specs.declared.resource.Resource.{Resource}
-use Rattle.alto_rows.specs.declared.resource.Resource.TheVariants as resource
+use Rattle.alto_rows.specs.Good.{IsResource}
+use Rattle.alto_rows.specs.Ids.{resource_id}
 use Rattle.alto_book.specs.Book.{Book}
 use Rattle.edge_patch.specs.declared.form.PatchForm.{PatchForm}
 use Rattle.alto_book.specs.Walks.{Content, content_data, document_at, edge_content, Edge, followed}
@@ -30,12 +30,11 @@ pub record EdgeAsked : Type 0 where
   pub j : ℕ
   pub form : PatchForm
 
--- a request asks for this edge of a network map
+-- a request asks for this edge of a resource
 pub record AsksEdge (side : Side) (request : RequestData) (of : Resource) (edge : EdgeAsked) : Type 0 where
-  pub net : List ℕ
   pub routed : place_of side (path_of request.target) ≡ Some place.Edge
-  pub names : named is_net_byte 24 (segment (path_of request.target) 2) ≡ Ok net
-  pub map : of ≡ resource.Net net
+  pub resource : IsResource of
+  pub id : resource_id of ≡ segment (path_of request.target) 2
   pub from : edge_number (segment (path_of request.target) 4) ≡ Some edge.i
   pub to : edge_number (segment (path_of request.target) 5) ≡ Some edge.j
   pub accepts : patch_form request.accept ≡ edge.form

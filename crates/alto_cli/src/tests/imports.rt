@@ -52,6 +52,46 @@ fn three_hundred_imports_behind_one_of_as_many_edits_as_may_be(
     Ok(())
 }
 
+/// The views and edges of a cost map behind thirty-one imports of which each but the first puts one cost.
+const THIRTY_COSTS: &str =
+    r#"POST /tips | Content-Type: application/alto-tipsparams+json~ | {"resource-id":"metro:cost:routingcost","tag":"e1-20"} | 200 OK | alto-tips+json | {"tips-view-summary":{"updates-graph-summary":{"end-seq":31,"start-edge-rec":{"seq-i":0,"seq-j":31},"start-seq":24}},"tips-view-uri":"http://localhost/tips/metro:cost:routingcost"}
+POST /tips | Content-Type: application/alto-tipsparams+json~ | {"resource-id":"metro:cost:routingcost","tag":"e1-24"} | 200 OK | alto-tips+json | {"tips-view-summary":{"updates-graph-summary":{"end-seq":31,"start-edge-rec":{"seq-i":24,"seq-j":28},"start-seq":24}},"tips-view-uri":"http://localhost/tips/metro:cost:routingcost"}
+GET /tips/metro:cost:routingcost/ug/24/28 | | | 200 OK | merge-patch+json | {"cost-map":{"p0":{"p24":1024,"p25":1025,"p26":1026,"p27":1027}}}
+GET /tips/metro:cost:routingcost/ug/28/30 | | | 200 OK | merge-patch+json | {"cost-map":{"p0":{"p28":1028,"p29":1029}}}
+GET /tips/metro:cost:routingcost/ug/30/31 | | | 200 OK | merge-patch+json | {"cost-map":{"p0":{"p30":1030}}}
+GET /tips/metro:cost:routingcost/ug/23/24 | | | 410 Gone | json | {"start-seq":24,"status":410}"#;
+
+/// The records of a network of an ordinary size: 40 PIDs, 600 prefixes, and a cost for each pair.
+fn ordinary_network(alloc: Global) -> Result<String, AllocError> {
+    let mut text = String::from_str(alloc, "net-add,metro,,,,~metric-add,metro,routingcost,,,~")?;
+    text.push_str(records(alloc, "pid-add,metro,p#,,,", 40)?.as_str())?;
+    for block in 0..3u32 {
+        let prefix = format!(in alloc; "prefix-put,metro,p{block},10.{block}.#.0/24,,")?;
+        text.push_str(records(alloc, prefix.as_str(), 200)?.as_str())?;
+    }
+    for source in 0..40u32 {
+        let cost = format!(in alloc; "cost-put,metro,routingcost,p{source},p#,1")?;
+        text.push_str(records(alloc, cost.as_str(), 40)?.as_str())?;
+    }
+    Ok(text)
+}
+
+#[test]
+fn a_cost_map_is_followed_through_thirty_imports(rt: HostRuntime) -> Result<(), Fail> {
+    let alloc = rt.alloc();
+    let mut talk = Talk::new(alloc);
+    let network = ordinary_network(alloc)?;
+    talk.add_import(alloc, 1, network.as_str())?;
+    for n in 2..32u64 {
+        let (pid, cost) = (n - 1, n + 999);
+        let one = format!(in alloc; "cost-put,metro,routingcost,p0,p{pid},{cost}~")?;
+        talk.add_import(alloc, n, one.as_str())?;
+    }
+    talk.add_lines(alloc, THIRTY_COSTS)?;
+    assert!(rt; talk.is_served(alloc)?);
+    Ok(())
+}
+
 /// The bytes of the longest body.
 const LONGEST_BODY: usize = 4_194_304;
 

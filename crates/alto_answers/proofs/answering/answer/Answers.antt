@@ -15,10 +15,10 @@ maps-requires g c =
     let rows = ap g.R.RowStore.rows c.deref-in-Some-Maps.ensures ∙ ap (λ (version : Version). version.rows) c.front.view_is ∙ version.2.current in
     subst AreGood (sym rows) (good_rows _ version.1)
 
-pub filter_net_answer-requires : goal.filter_net_answer-requires
-filter_net_answer-requires g c =
+pub query-requires : goal.query-requires
+query-requires g c =
     let version = c.requires in
-    let rows = ap g.R.RowStore.rows c.deref-in-Some-FilterNet.ensures ∙ ap (λ (version : Version). version.rows) c.front.view_is ∙ version.2.current in
+    let rows = ap g.R.RowStore.rows c.deref-in-Some-Query.ensures ∙ ap (λ (version : Version). version.rows) c.front.view_is ∙ version.2.current in
     subst AreGood (sym rows) (good_rows _ version.1)
 
 pub returns-in-Some-Edge-clause-edits : goal.returns-in-Some-Edge-clause-edits

@@ -18,5 +18,13 @@ pub add-requires-4 : goal.add-requires-4
 unfolding matchit_on_literals
 add-requires-4 c = rw (c.in_ok-add-3.ensures, c.in_ok-add-2.ensures, c.in_ok-add.ensures, c.new-router.ensures) (search rules)
 
+pub add-requires-5 : goal.add-requires-5
+unfolding matchit_on_literals
+add-requires-5 c = rw (c.in_ok-add-4.ensures, c.in_ok-add-3.ensures, c.in_ok-add-2.ensures, c.in_ok-add.ensures, c.new-router.ensures) (search rules)
+
+pub add-requires-6 : goal.add-requires-6
+unfolding matchit_on_literals
+add-requires-6 c = rw (c.in_ok-add-5.ensures, c.in_ok-add-4.ensures, c.in_ok-add-3.ensures, c.in_ok-add-2.ensures, c.in_ok-add.ensures, c.new-router.ensures) (search rules)
+
 pub returns : goal.returns
-returns c = rw (c.in_ok-add-3.ensures, c.in_ok-add-2.ensures, c.in_ok-add.ensures, c.new-router.ensures) at c.in_ok-add-4.ensures
+returns c = rw (c.in_ok-add-5.ensures, c.in_ok-add-4.ensures, c.in_ok-add-3.ensures, c.in_ok-add-2.ensures, c.in_ok-add.ensures, c.new-router.ensures) at c.in_ok-add-6.ensures

@@ -1,0 +1,127 @@
+//! Which PID of a network an address belongs to.
+ghost use Rattle.std.specs.Prelude.{◌≡◌, IfOk, OnOk, option_copied, option_map};
+ghost use Rattle.serde_json.specs.Written.{compact_text};
+ghost use Rattle.alto_maps.specs.Writing.{AddsValue};
+ghost use Rattle.alto_names.specs.Name.{named, is_net_byte};
+ghost use Rattle.alto_book.specs.Book.{Book, rows_of};
+ghost use Rattle.alto_desk.specs.Front.{StandsFor};
+ghost use Rattle.alto_replies.specs.Reply.{IsReply};
+ghost use Rattle.alto_answers.specs.Answers.{BringsEdits, HasBytes};
+ghost use Rattle.alto_answers.specs.Lookup as spec;
+ghost use Rattle.alto_answers.specs.Lookup.{LookupAnswer, ReadsAddr, pid_document, pid_value, prefixes_named};
+ghost use Rattle.alto_answers.specs.Target.{segment};
+
+use crate::outcome::Answer;
+use crate::target::segment;
+use alto_addr::Addr;
+use alto_desk::Front;
+use alto_http::Verb;
+use alto_names::{NameFault, NetName, PidName};
+use alto_replies::{Reply, not_found, ok_reply, wrong_method};
+use alto_rows::{RowStore, read_typed_addr};
+use json::Writer;
+use pid_prefix::RangeTable;
+use std::alloc::{AllocError, Global};
+
+/// The length of the longest body: a PID of 64 bytes, and the ten bytes round it.
+const LONGEST: usize = 74;
+
+/// What a request comes to whose path leads to `/lookup/{net}/{address}`. The version's table of the network is
+/// searched, in at most log2(4p + 4) comparisons for p prefixes.
+pub(crate) fn lookup<R: RowStore>(
+    alloc: Global,
+    front: &Front<R>,
+    verb: Verb,
+    path: &[u8],
+) -> Result<Answer, AllocError>
+    ensures has_bytes { IfOk result HasBytes }
+    ensures edits { IfOk result BringsEdits }
+    ensures answer { IfOk result (λ answer. (book : Book) → StandsFor front.now book
+        → LookupAnswer verb (rows_of book) (segment path.now 2) (segment path.now 3) answer) }
+{
+    match verb {
+        Verb::Get => {
+            let net = segment(alloc, path, 2)?;
+            let address = segment(alloc, path, 3)?;
+            let table = table_named(alloc, front, &net)?;
+            Ok(Answer::Reply(lookup_reply(alloc, table, read_addr(&address))?))
+        }
+        Verb::Post | Verb::Other => Ok(Answer::Reply(wrong_method(alloc, Verb::Get)?)),
+    }
+}
+
+/// The address that a text writes behind its type.
+fn read_addr(text: &[u8]) -> Option<Addr>
+    ensures { ReadsAddr text.now result }
+{
+    read_typed_addr(text)
+}
+
+/// The table of the network that a text names, if it is declared.
+fn table_named<'f, R: RowStore>(
+    alloc: Global,
+    front: &'f Front<R>,
+    text: &[u8],
+) -> Result<Option<&'f RangeTable>, AllocError>
+    ensures { IfOk result (λ found. (book : Book) → StandsFor front.now book
+        → prefixes_named (rows_of book) (named is_net_byte 24 text.now) ≡ option_map (λ table. table.now) found) }
+{
+    match NetName::read(alloc, text) {
+        Ok(net) => Ok(front.table(&net)),
+        Err(NameFault::Memory) => Err(AllocError),
+        Err(_) => Ok(None),
+    }
+}
+
+/// The reply with the PID that a table gives an address.
+fn lookup_reply(
+    alloc: Global,
+    table: Option<&RangeTable>,
+    addr: Option<Addr>,
+) -> Result<Reply, AllocError>
+    ensures has_bytes { IfOk result IsReply }
+    ensures reply { IfOk result (λ reply. reply
+        ≡ spec.lookup_reply (option_map (λ table. table.now) table.entry) addr) }
+{
+    let Some(table) = table else {
+        return not_found(alloc, "resource");
+    };
+    let Some(addr) = addr else {
+        return not_found(alloc, "resource");
+    };
+    ok_reply(
+        alloc,
+        "application/json",
+        pid_text(alloc, table.pid_of(&addr))?,
+    )
+}
+
+/// The text that tells a PID, or that there is none.
+fn pid_text(alloc: Global, pid: Option<&PidName>) -> Result<Vec<u8>, AllocError>
+    ensures { IfOk result (λ bytes. bytes.items ≡ compact_text (pid_document (option_copied pid.entry))) }
+{
+    let mut out = Writer::new(Vec::with_capacity(alloc, LONGEST)?);
+    write_document(pid, &mut out)?;
+    Ok(out.into_inner())
+}
+
+/// Writes the document of a PID.
+#[tactic(auto, unfolding(json_tree::specs::Document::with_member))]
+fn write_document(pid: Option<&PidName>, out: &mut Writer) -> Result<(), AllocError>
+    ensures { OnOk result (AddsValue (pid_document (option_copied pid.entry)) out.old out.new) }
+{
+    out.begin_object()?;
+    out.key("pid")?;
+    write_pid(pid, out)?;
+    out.end_object()
+}
+
+/// Writes a PID, or null where there is none.
+fn write_pid(pid: Option<&PidName>, out: &mut Writer) -> Result<(), AllocError>
+    ensures { OnOk result (AddsValue (pid_value (option_copied pid.entry)) out.old out.new) }
+{
+    match pid {
+        Some(pid) => out.string(pid.as_str()),
+        None => out.null(),
+    }
+}
