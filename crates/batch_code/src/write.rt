@@ -1,0 +1,66 @@
+ghost use Rattle.std.specs.Prelude.{◌≡◌, ◌≤◌, ◌∷◌, ◌++◌, All, IfOk, IfErr, length};
+ghost use Rattle.std.specs.List.{flat_map};
+ghost use Rattle.code_bytes.specs.Pieces.{number};
+ghost use Rattle.code_bytes.specs.Stuck.{Stops, Times};
+ghost use Rattle.batch_code.specs.Grammar.{Behind, WriteLists, Writes, key_number};
+ghost use Rattle.batch_code.specs.Spelling.{write_bytes};
+ghost use Rattle.batch_code.specs.Storable.{IsStored};
+
+use crate::key::read_key;
+use crate::kinds::KeyKind;
+use crate::value::read_value;
+use alto_rows::Write;
+use code_bytes::{Stop, first_byte, read_number};
+use std::alloc::Global;
+
+/// Reads writes behind their number.
+pub(crate) fn read_writes(alloc: Global, bytes: &[u8]) -> Result<(Vec<Write>, &[u8]), Stop>
+    ensures ok { IfOk result (λ x. All IsStored x.0.items × (length x.0.items ≤ 16384)
+        × (bytes.now ≡ (number 4 (length x.0.items) ++ flat_map write_bytes x.0.items) ++ x.1.now)) }
+    ensures stops { IfErr result (Stops WriteLists bytes.now) }
+{
+    let (count, rest) = read_number(bytes, 4, 0, 16384)?;
+    let (writes, rest) = writes_of(alloc, count, rest)?;
+    Ok((writes, rest))
+}
+
+/// Reads so many writes.
+fn writes_of(alloc: Global, count: u64, bytes: &[u8]) -> Result<(Vec<Write>, &[u8]), Stop>
+    ensures ok { IfOk result (λ x. All IsStored x.0.items × (length x.0.items ≡ count)
+        × (bytes.now ≡ flat_map write_bytes x.0.items ++ x.1.now)) }
+    ensures stops { IfErr result (Stops (Times count Writes) bytes.now) }
+{
+    let mut writes = Vec::new(alloc);
+    let mut rest = bytes;
+    for _ in 0..count {
+        let (write, after) = read_write(alloc, rest)?;
+        writes.push(write)?;
+        rest = after;
+    }
+    Ok((writes, rest))
+}
+
+/// Reads a write.
+fn read_write(alloc: Global, bytes: &[u8]) -> Result<(Write, &[u8]), Stop>
+    ensures ok { IfOk result (λ x. IsStored x.0 × (bytes.now ≡ write_bytes x.0 ++ x.1.now)) }
+    ensures stops { IfErr result (Stops Writes bytes.now) }
+{
+    let Some((number, rest)) = first_byte(bytes) else {
+        return Err(Stop::Left(0));
+    };
+    let Some(of) = KeyKind::of(number) else {
+        return Err(Stop::Left(bytes.len()));
+    };
+    let (write, rest) = read_behind(alloc, of, rest)?;
+    Ok((write, rest))
+}
+
+/// Reads what a write of a key of this kind holds behind its kind.
+fn read_behind(alloc: Global, of: KeyKind, bytes: &[u8]) -> Result<(Write, &[u8]), Stop>
+    ensures ok { IfOk result (λ x. IsStored x.0 × (key_number of ∷ bytes.now ≡ write_bytes x.0 ++ x.1.now)) }
+    ensures stops { IfErr result (Stops (Behind of) bytes.now) }
+{
+    let (key, rest) = read_key(alloc, of, bytes)?;
+    let (value, rest) = read_value(alloc, of.shape(), rest)?;
+    Ok((Write { key, value }, rest))
+}

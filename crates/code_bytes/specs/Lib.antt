@@ -1,0 +1,4 @@
+pub mod Stuck
+pub mod Pieces
+pub mod Chars
+pub mod Inside
