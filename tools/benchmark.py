@@ -48,6 +48,32 @@ def moves(count):
     return [f"prefix-put,metro,pid-{(k + 1) % 1_000:04},10.{k >> 8}.{k & 255}.0/24,," for k in range(count)]
 
 
+def costs(first, count, size):
+    """The lines that put costs between so many PIDs, row by row."""
+    return [
+        f"cost-put,metro,routingcost,pid-{k // size:04},pid-{k % size:04},{k * 7919 % 1_000}"
+        for k in range(first, first + count)
+    ]
+
+
+def followed(view, number):
+    """An edge of a view that ends at a number, of one step."""
+    return get(f"/tips/{view}/ug/{number - 1}/{number}")
+
+
+def cost_workloads():
+    """Yields the workloads on cost maps: those of 128 and of 512 PIDs, the second one as large as may be."""
+    network = ["net-add,metro,,,,", "metric-add,metro,routingcost,,,"]
+    small = [edits("some", network + pids(128)), edits("costs", costs(0, 16_384 - 1, 128))]
+    large = [edits("many", network + pids(512))]
+    large += [edits(f"costs-{k}", costs(k * 16_000, min(16_000, 262_144 - k * 16_000), 512)) for k in range(17)]
+    yield "100 cost maps of 128 PIDs", small, [get("/maps/metro:cost:routingcost")] * 100
+    yield "4 cost maps of 512 PIDs", large, [get("/maps/metro:cost:routingcost")] * 4
+    yield "500 imports of one cost into 262,144", large, [edits(f"one-{k}", costs(k * 500, 1, 512)) for k in range(500)]
+    steps = [edits(f"step-{k}", costs(k, 1, 128)) for k in range(3)]
+    yield "10,000 steps of one cost", small + steps, [followed("metro:cost:routingcost", 4)] * 10_000
+
+
 def workloads():
     """Yields each workload: its name, the requests that set it up, and those that are measured."""
     network = ["net-add,metro,,,,"]
@@ -61,6 +87,7 @@ def workloads():
     steps = [edits(f"step-{k}", [f"pid-drop,metro,pid-{k:04},,,"]) for k in range(3)]
     yield "10,000 steps of one PID", [thousand, *steps], [get("/tips/metro/ug/2/3")] * 10_000
     yield "10,000 edges of two steps", [thousand, *steps], [get("/tips/metro/ug/2/4")] * 10_000
+    yield from cost_workloads()
 
 
 def replies(stream, count):
@@ -115,13 +142,15 @@ def main():
     reader.add_argument("programs", nargs="*", metavar="PROGRAM")
     asked = reader.parse_args()
     programs = asked.programs or [f"{TOP}/alto"]
-    print(f"{'workload':<36}{'bytes':>12}" + "".join(f"{'seconds':>12}" for _ in programs) + ("  ratio" if programs[1:] else ""))
+    heading = "".join(f"{'seconds':>12}{'ns a byte':>12}" for _ in programs)
+    print(f"{'workload':<38}{'bytes':>12}{heading}" + ("  ratio" if programs[1:] else ""))
     for name, setup, measured in workloads():
         best = []
         for program in programs:
             runs = [run(program, setup, measured) for _ in range(asked.rounds)]
             best.append((runs[0][0], min(seconds for _, seconds in runs)))
-        line = f"{name:<36}{best[0][0]:>12}" + "".join(f"{seconds:>12.4f}" for _, seconds in best)
+        times = "".join(f"{seconds:>12.4f}{seconds * 1e9 / size:>12.2f}" for size, seconds in best)
+        line = f"{name:<38}{best[0][0]:>12}{times}"
         print(line + (f"{best[0][1] / best[1][1]:>7.2f}" if best[1:] else ""), flush=True)
     return 0
 
