@@ -1,5 +1,5 @@
 -- What records hold, and what a call on them does to it.
-use Rattle.std.specs.Prelude.{ℕ, ◌+◌, ◌-◌, ◌^◌, ℤ, pos, ◌<ℤ◌, ◌≤ℤ◌, int_le, min, Bool, ◌&&◌, not, List, [], ◌∷◌, ◌++◌, Result, Ok, Err, All, filter}
+use Rattle.std.specs.Prelude.{ℕ, ◌+◌, ◌-◌, ◌^◌, ℤ, pos, ◌<ℤ◌, ◌≤ℤ◌, int_le, min, Bool, ◌==◌, ◌&&◌, not, if◌then◌else◌, List, [], ◌∷◌, ◌++◌, Result, Ok, Err, All, filter}
 use Rattle.alto_keeper.specs.declared.fault.KeepFault.{KeepFault}
 use Rattle.alto_keeper.specs.declared.fault.KeepFault.TheVariants as fault
 
@@ -48,3 +48,7 @@ abbrev pub faults_after : {T : Type 0} → Result T KeepFault → ℕ → ℕ
 faults_after (Ok value) n = n
 faults_after (Err fault.Failed) n = one_more n
 faults_after (Err fault.Memory) n = n
+
+-- a vault's count of faults after a keeper is closed: one more exactly where the keeper has counted any
+abbrev pub faults_closed : ℕ → ℕ → ℕ
+faults_closed counted n = if counted == 0 then n else one_more n

@@ -5,8 +5,8 @@ use crate::fault::KeepFault;
 use crate::stored::Stored;
 use std::alloc::Global;
 
-/// A place for records. It may fail, and counts how often it has; a call that fails leaves what is kept. Of records in memory
-/// what is kept is known; of a file it may not be.
+/// A place for records. It may fail, and counts how often it has; a call that fails leaves what is kept. Of records in
+/// memory what is kept is known; of a file it may not be.
 pub trait Keeper {
     /// All that is kept, where that is known.
     ghost stored: { Self → Option StoredData };

@@ -1,15 +1,20 @@
 //! Where a book's records are kept: a base in pieces, and rows behind it, each with its number.
 //!
-//! `Keeper` is what a desk asks of a place for records, and `Vault` opens keepers by their paths. Neither says what the bytes mean. Of
-//! records in memory (`MemKeeper`, `MemVault`) contracts see all that is kept; of a file they see what the file can promise.
+//! `Keeper` is what a desk asks of a place for records, and `Vault` opens keepers by their paths. Neither says what the
+//! bytes mean. Of records in memory (`MemKeeper`, `MemVault`) contracts see all that is kept; of a file they see what the
+//! file can promise.
 #![tactic(auto)]
 
 mod fault;
 mod keeper;
 mod mem_keeper;
+mod mem_vault;
 mod stored;
+mod vault;
 
 pub use fault::KeepFault;
 pub use keeper::Keeper;
 pub use mem_keeper::MemKeeper;
+pub use mem_vault::MemVault;
 pub use stored::{Stored, StoredRow};
+pub use vault::Vault;

@@ -58,6 +58,13 @@ impl MemKeeper {
         &self.stored
     }
 
+    /// All that is kept, where the keeper is done with.
+    pub fn into_stored(self) -> Stored
+        ensures { result ≡ self.stored }
+    {
+        self.stored
+    }
+
     /// How many calls have failed.
     pub fn faults(&self) -> u64
         ensures { result ≡ self.now.faults }
@@ -82,10 +89,7 @@ impl Keeper for MemKeeper {
         ensures counted { self.new.faults ≡ faults_after result self.old.faults }
     {
         self.call()?;
-        Ok(Stored {
-            base: copies(alloc, &self.stored.base)?,
-            rows: copies(alloc, &self.stored.rows)?,
-        })
+        Ok(self.stored.try_clone(alloc)?)
     }
 
     fn append(&mut self, alloc: Global, n: i64, bytes: &[u8]) -> Result<(), KeepFault>
@@ -136,17 +140,6 @@ impl MemKeeper {
         }
         Ok(())
     }
-}
-
-/// Copies of rows.
-fn copies(alloc: Global, rows: &[StoredRow]) -> Result<Vec<StoredRow>, AllocError>
-    ensures { IfOk result (λ copies. copies.items ≡ rows.now) }
-{
-    let mut copies = Vec::with_capacity(alloc, rows.len())?;
-    for row in rows {
-        copies.push(row.try_clone(alloc)?)?;
-    }
-    Ok(copies)
 }
 
 /// Pieces under their numbers from 0 on.

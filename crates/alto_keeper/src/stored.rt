@@ -1,5 +1,5 @@
 ghost use Rattle.std.specs.Prelude.{◌≡◌, ◌&&◌, int_le, pos, not, filter, IfOk, OnOk, OnErr};
-ghost use Rattle.alto_keeper.specs.Stored.{with_row, is_taken_in};
+ghost use Rattle.alto_keeper.specs.Stored.{nothing, with_row, is_taken_in};
 
 use std::alloc::{AllocError, Global};
 use std::marker::Model;
@@ -47,6 +47,26 @@ impl Model for Stored {
 }
 
 impl Stored {
+    /// No records.
+    pub fn empty(alloc: Global) -> Stored
+        ensures { result ≡ nothing }
+    {
+        Stored {
+            base: Vec::new(alloc),
+            rows: Vec::new(alloc),
+        }
+    }
+
+    /// A copy.
+    pub fn try_clone(&self, alloc: Global) -> Result<Stored, AllocError>
+        ensures { IfOk result (λ copy. copy ≡ self.now) }
+    {
+        Ok(Stored {
+            base: copies(alloc, &self.base)?,
+            rows: copies(alloc, &self.rows)?,
+        })
+    }
+
     /// Adds a row behind the others. A refusal leaves all.
     pub(crate) fn add(&mut self, row: StoredRow) -> Result<(), AllocError>
         ensures added { OnOk result (self.new ≡ with_row row.n row.bytes self.old) }
@@ -71,4 +91,15 @@ fn is_taken_in(upto: i64, n: i64) -> bool
     ensures { result ≡ (int_le (pos 1) n && int_le n upto) }
 {
     1 <= n && n <= upto
+}
+
+/// Copies of rows.
+fn copies(alloc: Global, rows: &[StoredRow]) -> Result<Vec<StoredRow>, AllocError>
+    ensures { IfOk result (λ copies. copies.items ≡ rows.now) }
+{
+    let mut copies = Vec::with_capacity(alloc, rows.len())?;
+    for row in rows {
+        copies.push(row.try_clone(alloc)?)?;
+    }
+    Ok(copies)
 }

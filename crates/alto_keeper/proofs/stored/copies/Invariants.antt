@@ -1,5 +1,5 @@
 use Rattle.std.proofs.Common.{◌≡◌, take}
-use Rattle.alto_keeper.proofs.mem_keeper.copies.Given as goal
+use Rattle.alto_keeper.proofs.stored.copies.Given as goal
 
 abbrev pub invariant-loop-row : goal.invariant-loop-row
 invariant-loop-row l = l.copies.items ≡ take l.row-index l.rows
