@@ -18,7 +18,7 @@ use Rattle.alto_addr.proofs.Written.{one_address, reads_as_written, prefix_as_wr
 use Rattle.alto_names.specs.Name.{IsNetName, IsPidName}
 use Rattle.alto_rows.specs.declared.entity.Entity.{Entity}
 use Rattle.alto_rows.specs.declared.entity.Entity.TheVariants as entity
-use Rattle.alto_rows.specs.Entities.{type_tag, WritesTypedAddr, WritesBlock, WritesTypedBlock, WritesEntity, block_text, entity_text, HasEntityBits}
+use Rattle.alto_rows.specs.Entities.{type_tag, WritesTypedAddr, WritesBlock, WritesTypedBlock, WritesEntity, block_text, entity_text}
 use Rattle.alto_rows.specs.Good.{IsEntity}
 use Rattle.alto_addr.specs.Order.{addr_cmp, prefix_cmp}
 use Rattle.alto_rows.proofs.OrderLemmas.{prefix_cmp_exact}
@@ -191,9 +191,9 @@ entity_pid net text n reads None none (entity.Pid pid) = (λ w. absurd (none pid
 entity_pid net text n reads (Some read) is other = entity_is net text read n (subst (λ (x : Entity). WritesEntity net text x) (sym is.1) is.2) other
 
 -- what is written of an entity reads as it
-pub entity_as_written : (net : List ℕ) (e : Entity) → IsEntity e → HasEntityBits e → WritesEntity net (entity_text net e) e
-entity_as_written net (entity.Pid pid) h bits = (refl, h)
-entity_as_written net (entity.Block block) h bits = (block_text block, refl, by (block.len == width_of block.addr) refl)
+pub entity_as_written : (net : List ℕ) (e : Entity) → IsEntity e → WritesEntity net (entity_text net e) e
+entity_as_written net (entity.Pid pid) is_name = (refl, is_name)
+entity_as_written net (entity.Block block) bits = (block_text block, refl, by (block.len == width_of block.addr) refl)
   where
     by : (b : Bool) → (block.len == width_of block.addr) ≡ b → WritesBlock (block_text block) block
     by true e = rw e (inr (reads_as_written block.addr bits, eqb-true block.len (width_of block.addr) e))

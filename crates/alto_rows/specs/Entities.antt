@@ -3,7 +3,7 @@ use Rattle.std.specs.Prelude.{◌≡◌, ℕ, ◌==◌, List, ◌++◌, ◌⊎�
 use Rattle.alto_addr.specs.declared.addr.Addr.{Addr}
 use Rattle.alto_addr.specs.declared.addr.Addr.TheVariants.{V4, V6}
 use Rattle.alto_addr.specs.declared.prefix.Prefix.{Prefix}
-use Rattle.alto_addr.specs.Bits.{width_of, HasBits}
+use Rattle.alto_addr.specs.Bits.{width_of}
 use Rattle.alto_addr.specs.Text.{IsAddrText, IsPrefixText, addr_text, prefix_text}
 use Rattle.alto_names.specs.Name.{IsPidName}
 use Rattle.alto_rows.specs.declared.entity.Entity.{Entity}
@@ -44,8 +44,3 @@ entity_text net (entity.Pid pid) = net ++ (codes ".pid:" ++ pid)
 abbrev pub WritesEntity : List ℕ → List ℕ → Entity → Type 0
 WritesEntity net text (entity.Block block) = WritesTypedBlock text block
 WritesEntity net text (entity.Pid pid) = (text ≡ net ++ (codes ".pid:" ++ pid)) × IsPidName pid
-
--- the address of a block is one of as many bits as its family has, as each is in a program
-abbrev pub HasEntityBits : Entity → Type 0
-HasEntityBits (entity.Block block) = HasBits block.addr
-HasEntityBits (entity.Pid pid) = Unit {0}

@@ -1,6 +1,7 @@
 -- Good rows: each value fits its key, what a row names is declared, a prefix has one PID, and declared resources have
 -- versions.
 use Rattle.std.specs.Prelude.{◌≡◌, ℕ, ◌<◌, ◌≤◌, ◌^◌, ◌-◌, List, [], ◌∷◌, length, map, All, true, Some, IfSome, IsUtf8, ⊤}
+use Rattle.alto_addr.specs.Bits.{HasBits}
 use Rattle.alto_addr.specs.declared.prefix.Prefix.{Prefix}
 use Rattle.alto_names.specs.Name.{IsNetName, IsPidName, IsMetric, IsAneName, IsPropName, IsEpoch}
 use Rattle.alto_rows.specs.declared.entity.Entity.{Entity}
@@ -20,18 +21,18 @@ IsResource (resource.Net net) = IsNetName net
 IsResource (resource.Cost net metric) = IsNetName net × IsMetric metric
 IsResource (resource.Prop net) = IsNetName net
 
--- the name of an entity is of its alphabet
+-- the name of an entity is of its alphabet, and the address of a block as wide as its family
 abbrev pub IsEntity : Entity → Type 0
-IsEntity (entity.Block block) = ⊤
+IsEntity (entity.Block block) = HasBits block.addr
 IsEntity (entity.Pid pid) = IsPidName pid
 
--- the names in a key are of their alphabets
+-- the names in a key are of their alphabets, and its addresses as wide as their families
 abbrev pub IsKey : Key → Type 0
 IsKey key.Epoch = ⊤
 IsKey key.Window = ⊤
 IsKey (key.Net net) = IsNetName net
 IsKey (key.Pid net pid) = IsNetName net × IsPidName pid
-IsKey (key.Prefix net pid prefix) = IsNetName net × IsPidName pid
+IsKey (key.Prefix net pid prefix) = IsNetName net × IsPidName pid × HasBits prefix.addr
 IsKey (key.Metric net metric) = IsNetName net × IsMetric metric
 IsKey (key.Cost net metric source destination) =
     IsNetName net × IsMetric metric × IsPidName source × IsPidName destination
@@ -62,7 +63,7 @@ Takes (key.Path net source destination) (value.Names anes) = All IsAneName anes 
 Takes (key.Seq of) (value.Num n) = (1 ≤ n) × (n < 2 ^ 63)
 Takes _ _ = ⊥
 
--- the names in a key are of their alphabets, and the value is of the key's kind and range
+-- a key is well formed, and the value is of its kind and range
 abbrev pub Fits : Key → Value → Type 0
 Fits at value = IsKey at × Takes at value
 

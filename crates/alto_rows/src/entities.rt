@@ -5,7 +5,7 @@ ghost use Rattle.alto_addr.specs.declared.prefix.Prefix.{Prefix as ThePrefix};
 ghost use Rattle.alto_addr.specs.Text.{prefix_text};
 ghost use Rattle.alto_names.specs.Name.{IsNetName};
 ghost use Rattle.alto_rows.specs.Entities as spec;
-ghost use Rattle.alto_rows.specs.Entities.{typed_addr_text, entity_text, block_text, WritesTypedAddr, WritesBlock, WritesTypedBlock, WritesEntity, HasEntityBits};
+ghost use Rattle.alto_rows.specs.Entities.{typed_addr_text, entity_text, block_text, WritesTypedAddr, WritesBlock, WritesTypedBlock, WritesEntity};
 ghost use Rattle.alto_rows.specs.Good.{IsEntity};
 ghost use Rattle.alto_rows.specs.declared.entity.Entity.{Entity as TheEntity};
 ghost use Rattle.alto_rows.specs.declared.entity.Entity.TheVariants as entity;
@@ -26,7 +26,7 @@ pub fn text_writes_one_entity()
 
 /// What is written of an entity reads as that entity.
 pub fn entity_reads_as_written()
-    ensures { (net : List ℕ) (entity : TheEntity) → IsEntity entity → HasEntityBits entity
+    ensures { (net : List ℕ) (entity : TheEntity) → IsEntity entity
         → WritesEntity net (entity_text net entity) entity }
 {}
 

@@ -4,7 +4,6 @@ use Rattle.alto_addr.specs.declared.addr.Addr.{Addr}
 use Rattle.alto_addr.specs.declared.addr.Addr.TheVariants.{V4, V6}
 use Rattle.alto_addr.specs.Order.{family_of}
 use Rattle.alto_names.specs.Name.{named, is_net_byte, is_pid_byte, is_metric_byte, is_import_byte}
-use Rattle.alto_rows.specs.Entities.{HasEntityBits}
 use Rattle.alto_rows.specs.Good.{IsEntity}
 use Rattle.alto_rows.specs.declared.entity.Entity.{Entity}
 use Rattle.alto_rows.specs.declared.entity.Entity.TheVariants as entity
@@ -154,6 +153,6 @@ fields_grammar kind.Path = pair_grammar NetNames (Pair PidNames PidNames) net_gr
 fields_grammar kind.Seq = resources_grammar
 
 -- what a known entity writes
-pub is_entity : (value : Entity) → IsEntity value → HasEntityBits value → Entities (entity_bytes value)
-is_entity (entity.Block block) is bits = inl (record { value = block; has_bits = bits; spelled = refl })
-is_entity (entity.Pid pid) is bits = inr (record { byte = 0x50; back = name pid; split = refl; second = (refl, is_text is_pid_byte 64 pid is) })
+pub is_entity : (value : Entity) → IsEntity value → Entities (entity_bytes value)
+is_entity (entity.Block block) bits = inl (record { value = block; has_bits = bits; spelled = refl })
+is_entity (entity.Pid pid) is = inr (record { byte = 0x50; back = name pid; split = refl; second = (refl, is_text is_pid_byte 64 pid is) })

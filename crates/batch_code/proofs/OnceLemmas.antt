@@ -7,7 +7,7 @@ use Rattle.alto_addr.specs.declared.addr.Addr.{Addr}
 use Rattle.alto_addr.specs.declared.addr.Addr.TheVariants.{V4, V6}
 use Rattle.alto_addr.specs.Order.{family_of}
 use Rattle.alto_rows.specs.Accepted.{Accepted}
-use Rattle.alto_rows.specs.Entities.{HasEntityBits}
+use Rattle.alto_rows.specs.Good.{IsEntity, IsKey}
 use Rattle.alto_rows.specs.Order.{kind_of}
 use Rattle.alto_rows.specs.declared.entity.Entity.{Entity}
 use Rattle.alto_rows.specs.declared.entity.Entity.TheVariants as entity
@@ -24,7 +24,7 @@ use Rattle.batch_code.specs.Faults.{IsBatch, IsFaultOf, IsRowZero}
 use Rattle.batch_code.specs.declared.fault.CodeFault.{CodeFault}
 use Rattle.batch_code.specs.declared.fault.CodeFault.TheVariants as fault
 use Rattle.batch_code.specs.Spelling.{batch_bytes, entity_bytes, fields, head_bytes, resource_bytes, value_bytes, write_bytes}
-use Rattle.batch_code.specs.Storable.{HasKeyBits, IsHead, IsStorable, IsStored}
+use Rattle.batch_code.specs.Storable.{IsHead, IsStorable, IsStored}
 use Rattle.batch_code.specs.Values.{IsValueOf, shape_at}
 use Rattle.batch_code.specs.declared.kinds.Shape.{Shape}
 use Rattle.batch_code.proofs.ValueLemmas.{fits_eight}
@@ -36,7 +36,7 @@ no_pid : (addr : Addr) (r s : List ℕ) → family_of addr ∷ r ≡ 0x50 ∷ s 
 no_pid (V4 n) r s e = absurd cc
 no_pid (V6 n) r s e = absurd cc
 
-entity_apart : (a b : Entity) (r s : List ℕ) → HasEntityBits a → HasEntityBits b → entity_bytes a ++ r ≡ entity_bytes b ++ s → (a ≡ b) × (r ≡ s)
+entity_apart : (a b : Entity) (r s : List ℕ) → IsEntity a → IsEntity b → entity_bytes a ++ r ≡ entity_bytes b ++ s → (a ≡ b) × (r ≡ s)
 entity_apart (entity.Block p) (entity.Block q) r s one other e =
     let both = prefix_apart p q r s one other e in
     (ap entity.Block both.0, both.1)
@@ -58,7 +58,7 @@ resource_apart (resource.Cost n a) (resource.Cost m b) r s e =
     ((λ i. resource.Cost (both.0 i) (both.1 i)), both.2)
 resource_apart _ _ r s e = absurd cc
 
-fields_apart : (a b : Key) (r s : List ℕ) → kind_of a ≡ kind_of b → 3 ≤ kind_of a → HasKeyBits a → HasKeyBits b → fields a ++ r ≡ fields b ++ s
+fields_apart : (a b : Key) (r s : List ℕ) → kind_of a ≡ kind_of b → 3 ≤ kind_of a → IsKey a → IsKey b → fields a ++ r ≡ fields b ++ s
     → (a ≡ b) × (r ≡ s)
 fields_apart key.Epoch b r s same le one other e = absurd (omega (arith, le))
 fields_apart key.Window b r s same le one other e = absurd (omega (arith, le))
@@ -71,7 +71,7 @@ fields_apart (key.Pid n a) (key.Pid m b) r s same le one other e =
 fields_apart (key.Prefix n a p) (key.Prefix m b q) r s same le one other e =
     let names = names_apart n a m b (prefix p ++ r) (prefix q ++ s)
     (sym (append_assoc (name n ++ name a) (prefix p) r) ∙ e ∙ append_assoc (name m ++ name b) (prefix q) s) in
-    let both = prefix_apart p q r s one other names.2 in
+    let both = prefix_apart p q r s one.2 other.2 names.2 in
     ((λ i. key.Prefix (names.0 i) (names.1 i) (both.0 i)), both.1)
 fields_apart (key.Metric n a) (key.Metric m b) r s same le one other e =
     let both = names_apart n a m b r s e in
@@ -84,7 +84,7 @@ fields_apart (key.Cost n a from to) (key.Cost m b from2 to2) r s same le one oth
 fields_apart (key.Prop n x a) (key.Prop m y b) r s same le one other e =
     let net = name_apart n m ((entity_bytes x ++ name a) ++ r) ((entity_bytes y ++ name b) ++ s)
     (sym (append_assoc (name n) (entity_bytes x ++ name a) r) ∙ e ∙ append_assoc (name m) (entity_bytes y ++ name b) s) in
-    let of = entity_apart x y (name a ++ r) (name b ++ s) one other
+    let of = entity_apart x y (name a ++ r) (name b ++ s) one.1 other.1
     (sym (append_assoc (entity_bytes x) (name a) r) ∙ net.1 ∙ append_assoc (entity_bytes y) (name b) s) in
     let last = name_apart a b r s of.1 in
     ((λ i. key.Prop (net.0 i) (of.0 i) (last.0 i)), last.1)
@@ -159,11 +159,11 @@ value_apart _ _ r s one other e = absurd cc
 
 small_in : (write : Write) → IsStored write → IsSmall write.value
 small_in write is =
-    small_of (shape_at write.key) write.value ((takes_same write.key write.value).1 is.spelling.takes is.spelling.stored)
+    small_of (shape_at write.key) write.value ((takes_same write.key write.value).1 is.takes is.stored)
 
 write_apart : (one other : Write) (r s : List ℕ) → IsStored one → IsStored other → write_bytes one ++ r ≡ write_bytes other ++ s → (one ≡ other) × (r ≡ s)
 write_apart one other r s is its e =
-    let keys = fields_apart one.key other.key (value_bytes one.value ++ r) (value_bytes other.value ++ s) (head_is _ _ _ _ e) is.spelling.stored is.bits its.bits
+    let keys = fields_apart one.key other.key (value_bytes one.value ++ r) (value_bytes other.value ++ s) (head_is _ _ _ _ e) is.stored is.is_key its.is_key
     (sym (append_assoc (fields one.key) (value_bytes one.value) r) ∙ tail_is _ _ _ _ e ∙ append_assoc (fields other.key) (value_bytes other.value) s) in
     let values = value_apart one.value other.value r s (small_in one is) (small_in other its) keys.1 in
     ((λ i. record { key = keys.0 i; value = values.0 i }), values.1)

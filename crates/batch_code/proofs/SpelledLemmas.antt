@@ -3,7 +3,6 @@ use Rattle.std.proofs.Common.{◌≡◌, ℕ, Bool, List, [], ◌∷◌, ◌++�
 use Rattle.std.specs.List.{flat_map}
 use Rattle.std.proofs.lemmas.List.Elements.{All-from_recursion}
 use Rattle.alto_names.specs.Name.{named, is_net_byte, is_pid_byte, is_metric_byte, IsAneName}
-use Rattle.alto_rows.specs.Entities.{HasEntityBits}
 use Rattle.alto_rows.specs.Good.{IsEntity, IsKey, IsResource}
 use Rattle.alto_rows.specs.Order.{kind_of}
 use Rattle.alto_rows.specs.declared.entity.Entity.{Entity}
@@ -21,7 +20,7 @@ use Rattle.code_bytes.proofs.GrammarLemmas.{times_to}
 use Rattle.batch_code.specs.Faults.{IsBatch, IsRowZero}
 use Rattle.batch_code.specs.Grammar.{AneNames, BatchTexts, Entities, Fields, HeadTexts, ResourceNames, Values, Writes, form_number, key_number, resource_number, shape_of}
 use Rattle.batch_code.specs.Spelling.{entity_bytes, fields, resource_bytes, value_bytes, write_bytes}
-use Rattle.batch_code.specs.Storable.{HasKeyBits, IsKeyAt, IsStored}
+use Rattle.batch_code.specs.Storable.{IsKeyAt, IsStored}
 use Rattle.batch_code.specs.Values.{IsValueOf}
 use Rattle.batch_code.specs.declared.kinds.Form.{Form}
 use Rattle.batch_code.specs.declared.kinds.Form.TheVariants as form
@@ -45,12 +44,11 @@ two_names first second n m text is = (
   is.split ∙ ap (λ t. t ++ is.back) is.first.spelled ∙ ap (λ t. name is.first.value ++ t) is.second.spelled,
 )
 
-entity_in : (text : List ℕ) → Entities text → (of : Entity) × IsEntity of × HasEntityBits of × (text ≡ entity_bytes of)
-entity_in text (inl is) = (entity.Block is.value, tt, is.has_bits, is.spelled)
+entity_in : (text : List ℕ) → Entities text → (of : Entity) × IsEntity of × (text ≡ entity_bytes of)
+entity_in text (inl is) = (entity.Block is.value, is.has_bits, is.spelled)
 entity_in text (inr is) = (
   entity.Pid is.second.1.value,
   is.second.1.is_name,
-  tt,
   is.split ∙ ap (λ b. b ∷ is.back) is.second.0 ∙ ap (λ t. 0x50 ∷ t) is.second.1.spelled,
 )
 
@@ -67,26 +65,24 @@ record HasKey (at : KeyKind) (text : List ℕ) : Type 0 where
   pub of : Key
   pub kind : kind_of of ≡ key_number at
   pub is_key : IsKey of
-  pub bits : HasKeyBits of
   pub spelled : text ≡ fields of
 
 key_in : (at : KeyKind) (text : List ℕ) → Fields at text → HasKey at text
-key_in kind.Net text is = record { of = key.Net is.value; kind = refl; is_key = is.is_name; bits = tt; spelled = is.spelled }
+key_in kind.Net text is = record { of = key.Net is.value; kind = refl; is_key = is.is_name; spelled = is.spelled }
 key_in kind.Pid text is =
     let two = two_names is_net_byte is_pid_byte 24 64 text is in
-    record { of = key.Pid two.0 two.1; kind = refl; is_key = (two.2, two.3); bits = tt; spelled = two.4 }
+    record { of = key.Pid two.0 two.1; kind = refl; is_key = (two.2, two.3); spelled = two.4 }
 key_in kind.Prefix text is =
     let two = two_names is_net_byte is_pid_byte 24 64 is.front is.first in
     record {
       of = key.Prefix two.0 two.1 is.second.value;
       kind = refl;
-      is_key = (two.2, two.3);
-      bits = is.second.has_bits;
+      is_key = (two.2, two.3, is.second.has_bits);
       spelled = is.split ∙ ap (λ t. t ++ is.back) two.4 ∙ ap (λ t. (name two.0 ++ name two.1) ++ t) is.second.spelled;
     }
 key_in kind.Metric text is =
     let two = two_names is_net_byte is_metric_byte 24 32 text is in
-    record { of = key.Metric two.0 two.1; kind = refl; is_key = (two.2, two.3); bits = tt; spelled = two.4 }
+    record { of = key.Metric two.0 two.1; kind = refl; is_key = (two.2, two.3); spelled = two.4 }
 key_in kind.Cost text is =
     let one = two_names is_net_byte is_metric_byte 24 32 is.front is.first in
     let two = two_names is_pid_byte is_pid_byte 64 64 is.back is.second in
@@ -94,31 +90,28 @@ key_in kind.Cost text is =
       of = key.Cost one.0 one.1 two.0 two.1;
       kind = refl;
       is_key = (one.2, one.3, two.2, two.3);
-      bits = tt;
       spelled = is.split ∙ ap (λ t. t ++ is.back) one.4 ∙ ap (λ t. (name one.0 ++ name one.1) ++ t) two.4;
     }
 key_in kind.Prop text is =
     let of = entity_in is.second.front is.second.first in
     let last = is.second.second in
     let behind : is.back ≡ entity_bytes of.0 ++ name last.value =
-    is.second.split ∙ ap (λ t. t ++ is.second.back) of.3 ∙ ap (λ t. entity_bytes of.0 ++ t) last.spelled in
+    is.second.split ∙ ap (λ t. t ++ is.second.back) of.2 ∙ ap (λ t. entity_bytes of.0 ++ t) last.spelled in
     record {
       of = key.Prop is.first.value of.0 last.value;
       kind = refl;
       is_key = (is.first.is_name, of.1, last.is_name);
-      bits = of.2;
       spelled = is.split ∙ ap (λ t. t ++ is.back) is.first.spelled ∙ ap (λ t. name is.first.value ++ t) behind;
     }
 key_in kind.Ane text is =
     let two = two_names is_net_byte is_pid_byte 24 32 text is in
-    record { of = key.Ane two.0 two.1; kind = refl; is_key = (two.2, two.3); bits = tt; spelled = two.4 }
+    record { of = key.Ane two.0 two.1; kind = refl; is_key = (two.2, two.3); spelled = two.4 }
 key_in kind.AneProp text is =
     let two = two_names is_net_byte is_pid_byte 24 32 is.front is.first in
     record {
       of = key.AneProp two.0 two.1 is.second.value;
       kind = refl;
       is_key = (two.2, two.3, is.second.is_name);
-      bits = tt;
       spelled = is.split ∙ ap (λ t. t ++ is.back) two.4 ∙ ap (λ t. (name two.0 ++ name two.1) ++ t) is.second.spelled;
     }
 key_in kind.Path text is =
@@ -127,12 +120,11 @@ key_in kind.Path text is =
       of = key.Path is.first.value two.0 two.1;
       kind = refl;
       is_key = (is.first.is_name, two.2, two.3);
-      bits = tt;
       spelled = is.split ∙ ap (λ t. t ++ is.back) is.first.spelled ∙ ap (λ t. name is.first.value ++ t) two.4;
     }
 key_in kind.Seq text is =
     let of = resource_by is.tag text is.back is.split is.second in
-    record { of = key.Seq of.0; kind = refl; is_key = of.1; bits = tt; spelled = of.2 }
+    record { of = key.Seq of.0; kind = refl; is_key = of.1; spelled = of.2 }
 
 -- ---- values
 
@@ -171,7 +163,7 @@ write_in text is =
     let last = behind.second in
     let v = value_by (shape_of is.tag) last.tag behind.back last.back last.split last.second in
     let at : IsKeyAt (key_number is.tag) is.back of.of behind.back =
-    record { kind = of.kind; is_key = of.is_key; bits = of.bits; read = behind.split ∙ ap (λ t. t ++ behind.back) of.spelled } in
+    record { kind = of.kind; is_key = of.is_key; read = behind.split ∙ ap (λ t. t ++ behind.back) of.spelled } in
     let read = behind_read is.tag of.of v.0 is.back behind.back [] at v.1 (v.2 ∙ sym (append-nil (value_bytes v.0))) in
     (record { key = of.of; value = v.0 }, read.0, is.split ∙ read.1 ∙ append-nil (write_bytes (record { key = of.of; value = v.0 })))
 

@@ -19,7 +19,7 @@ use Rattle.code_bytes.specs.Pieces.{Numbers, Prefixes, name, number, prefix}
 use Rattle.code_bytes.proofs.GrammarLemmas.{IsGrammar, counted_first, counted_grammar, counted_next, pair_first, pair_grammar, pair_next, tagged_bad, tagged_free, tagged_none, tagged_on, times_from, times_grammar}
 use Rattle.batch_code.specs.Grammar.{NetNames, PidNames, MetricNames, PropNames, AneNames, Behind, Entities, Fields, Resources, Values, WriteLists, Writes, form_number, has_form, key_number, least_of, most_of, shape_of}
 use Rattle.batch_code.specs.Spelling.{entity_bytes, fields, resource_bytes, value_bytes, write_bytes}
-use Rattle.batch_code.specs.Storable.{HasKeyBits, IsKeyAt, IsStored, TakesChange}
+use Rattle.batch_code.specs.Storable.{IsKeyAt, IsStored, TakesChange}
 use Rattle.batch_code.specs.Values.{IsValueOf, shape_at}
 use Rattle.batch_code.specs.declared.kinds.Form.TheVariants as form
 use Rattle.batch_code.specs.declared.kinds.KeyKind.{KeyKind}
@@ -150,45 +150,42 @@ resource_text (resource.Cost n m) is = record {
 }
 resource_text (resource.Prop n) is = record { tag = of_kind.Prop; back = name n; split = refl; second = net n is }
 
-pub fields_text : (at : KeyKind) (of : Key) → kind_of of ≡ key_number at → IsKey of → HasKeyBits of → Fields at (fields of)
-fields_text kind.Net (key.Net n) e is bits = net n is
-fields_text kind.Pid (key.Pid n p) e is bits = are_texts NetNames PidNames (name n) (name p) (net n is.0) (is_text is_pid_byte 64 p is.1)
-fields_text kind.Prefix (key.Prefix n p block) e is bits =
+pub fields_text : (at : KeyKind) (of : Key) → kind_of of ≡ key_number at → IsKey of → Fields at (fields of)
+fields_text kind.Net (key.Net n) e is = net n is
+fields_text kind.Pid (key.Pid n p) e is = are_texts NetNames PidNames (name n) (name p) (net n is.0) (is_text is_pid_byte 64 p is.1)
+fields_text kind.Prefix (key.Prefix n p block) e is =
     are_texts (Pair NetNames PidNames) Prefixes (name n ++ name p) (prefix block) (are_texts NetNames PidNames (name n) (name p) (net n is.0) (is_text is_pid_byte 64 p is.1))
-    (record { value = block; has_bits = bits; spelled = refl })
-fields_text kind.Metric (key.Metric n m) e is bits = are_texts NetNames MetricNames (name n) (name m) (net n is.0) (is_text is_metric_byte 32 m is.1)
-fields_text kind.Cost (key.Cost n m s d) e is bits =
+    (record { value = block; has_bits = is.2; spelled = refl })
+fields_text kind.Metric (key.Metric n m) e is = are_texts NetNames MetricNames (name n) (name m) (net n is.0) (is_text is_metric_byte 32 m is.1)
+fields_text kind.Cost (key.Cost n m s d) e is =
     are_texts (Pair NetNames MetricNames) (Pair PidNames PidNames) (name n ++ name m) (name s ++ name d)
     (are_texts NetNames MetricNames (name n) (name m) (net n is.0) (is_text is_metric_byte 32 m is.1))
     (are_texts PidNames PidNames (name s) (name d) (is_text is_pid_byte 64 s is.2) (is_text is_pid_byte 64 d is.3))
-fields_text kind.Prop (key.Prop n entity p) e is bits =
+fields_text kind.Prop (key.Prop n entity p) e is =
     are_texts NetNames (Pair Entities PropNames) (name n) (entity_bytes entity ++ name p) (net n is.0)
-    (are_texts Entities PropNames (entity_bytes entity) (name p) (is_entity entity is.1 bits) (is_text is_metric_byte 32 p is.2))
-fields_text kind.Ane (key.Ane n a) e is bits = are_texts NetNames AneNames (name n) (name a) (net n is.0) (is_text is_pid_byte 32 a is.1)
-fields_text kind.AneProp (key.AneProp n a p) e is bits =
+    (are_texts Entities PropNames (entity_bytes entity) (name p) (is_entity entity is.1) (is_text is_metric_byte 32 p is.2))
+fields_text kind.Ane (key.Ane n a) e is = are_texts NetNames AneNames (name n) (name a) (net n is.0) (is_text is_pid_byte 32 a is.1)
+fields_text kind.AneProp (key.AneProp n a p) e is =
     are_texts (Pair NetNames AneNames) PropNames (name n ++ name a) (name p) (are_texts NetNames AneNames (name n) (name a) (net n is.0) (is_text is_pid_byte 32 a is.1))
     (is_text is_metric_byte 32 p is.2)
-fields_text kind.Path (key.Path n s d) e is bits =
+fields_text kind.Path (key.Path n s d) e is =
     are_texts NetNames (Pair PidNames PidNames) (name n) (name s ++ name d) (net n is.0)
     (are_texts PidNames PidNames (name s) (name d) (is_text is_pid_byte 64 s is.1) (is_text is_pid_byte 64 d is.2))
-fields_text kind.Seq (key.Seq of) e is bits = resource_text of is
-fields_text _ _ e is bits = absurd cc
+fields_text kind.Seq (key.Seq of) e is = resource_text of is
+fields_text _ _ e is = absurd cc
 
 pub behind_next : (at : KeyKind) (of : Key) (bytes rest : List ℕ) (why : Stop) → IsKeyAt (key_number at) bytes of rest → Stops (ValueTexts at) rest why → Stops (Behind at) bytes why
 behind_next at of bytes rest why is s =
-    pair_next (Fields at) (ValueTexts at) bytes (fields of) rest why (fields_grammar at) (fields_text at of is.kind is.is_key is.bits) is.read s
+    pair_next (Fields at) (ValueTexts at) bytes (fields of) rest why (fields_grammar at) (fields_text at of is.kind is.is_key) is.read s
 
 pub behind_read : (at : KeyKind) (of : Key) (v : Option Value) (bytes rest last : List ℕ) → IsKeyAt (key_number at) bytes of rest → IsValueOf (shape_of at) v
     → rest ≡ value_bytes v ++ last → IsStored (record { key = of; value = v }) × (key_number at ∷ bytes ≡ write_bytes (record { key = of; value = v }) ++ last)
 behind_read at of v bytes rest last is fits e =
     let le : 3 ≤ kind_of of = subst (λ n. 3 ≤ n) (sym is.kind) (stored_kind at) in (
       record {
-        spelling = record {
-          stored = le;
-          is_key = is.is_key;
-          takes = (takes_same of v).0 (subst (λ s. IsValueOf s v) (same_shape at of is.kind) fits) le;
-        };
-        bits = is.bits;
+        stored = le;
+        is_key = is.is_key;
+        takes = (takes_same of v).0 (subst (λ s. IsValueOf s v) (same_shape at of is.kind) fits) le;
       },
       ap (λ n. n ∷ bytes) (sym is.kind) ∙ ap (λ t. kind_of of ∷ t) (is.read ∙ ap (λ t. fields of ++ t) e ∙ sym (append_assoc (fields of) (value_bytes v) last)),
     )
@@ -329,8 +326,8 @@ kind_at key.Window le = absurd (omega (arith, le))
 
 pub is_write : (write : Write) → IsStored write → Writes (write_bytes write)
 is_write write is =
-    let at = kind_at write.key is.spelling.stored in
-    let fits = (takes_same write.key write.value).1 is.spelling.takes is.spelling.stored in
+    let at = kind_at write.key is.stored in
+    let fits = (takes_same write.key write.value).1 is.takes is.stored in
     record {
       tag = at.0;
       back = fields write.key ++ value_bytes write.value;
@@ -339,7 +336,7 @@ is_write write is =
         front = fields write.key;
         back = value_bytes write.value;
         split = refl;
-        first = fields_text at.0 write.key at.1 is.spelling.is_key is.bits;
+        first = fields_text at.0 write.key at.1 is.is_key;
         second = value_text (shape_of at.0) write.value (subst (λ s. IsValueOf s write.value) (sym (same_shape at.0 write.key at.1)) fits);
       };
     }

@@ -1,11 +1,9 @@
 -- Which writes and batches can be stored.
 use Rattle.std.specs.Prelude.{◌≡◌, ℕ, ◌<◌, ◌≤◌, ◌^◌, ◌++◌, List, length, All, Option, Some, None, ⊤}
-use Rattle.alto_addr.specs.Bits.{HasBits}
 use Rattle.alto_names.specs.Name.{IsImportId, IsEpoch}
 use Rattle.alto_rows.specs.Accepted.{Accepted}
 use Rattle.alto_rows.specs.Good.{IsKey, Takes}
 use Rattle.alto_rows.specs.Order.{kind_of}
-use Rattle.alto_rows.specs.Entities.{HasEntityBits}
 use Rattle.alto_rows.specs.declared.key.Key.{Key}
 use Rattle.alto_rows.specs.declared.key.Key.TheVariants as key
 use Rattle.alto_rows.specs.declared.value.Value.{Value}
@@ -19,23 +17,12 @@ TakesChange (key.Seq of) None = ⊥
 TakesChange at None = ⊤
 TakesChange at (Some value) = Takes at value
 
--- the addresses in a key are as wide as their families
-abbrev pub HasKeyBits : Key → Type 0
-HasKeyBits (key.Prefix net pid block) = HasBits block.addr
-HasKeyBits (key.Prop net entity property) = HasEntityBits entity
-HasKeyBits at = ⊤
-
--- a write has a spelling: its key is neither the epoch nor the window, its names are of their alphabets, and its value
--- is one that its key takes
-pub record HasSpelling (write : Write) : Type 0 where
+-- a write can be stored: its key is neither the epoch nor the window, and is well formed, and its value is one that its
+-- key takes
+pub record IsStored (write : Write) : Type 0 where
   pub stored : 3 ≤ kind_of write.key
   pub is_key : IsKey write.key
   pub takes : TakesChange write.key write.value
-
--- the same, with addresses as wide as their families
-pub record IsStored (write : Write) : Type 0 where
-  pub spelling : HasSpelling write
-  pub bits : HasKeyBits write.key
 
 -- a batch can be stored
 pub record IsStorable (batch : Accepted) : Type 0 where
@@ -55,7 +42,6 @@ pub record IsHead (epoch : List ℕ) (window : ℕ) : Type 0 where
 pub record IsKeyAt (number : ℕ) (bytes : List ℕ) (at : Key) (rest : List ℕ) : Type 0 where
   pub kind : kind_of at ≡ number
   pub is_key : IsKey at
-  pub bits : HasKeyBits at
   pub read : bytes ≡ fields at ++ rest
 
 -- a value is as short as its number of bytes or names can say

@@ -4,7 +4,7 @@ ghost use Rattle.alto_rows.specs.Order.{kind_of};
 ghost use Rattle.code_bytes.specs.Pieces.{name, number};
 ghost use Rattle.batch_code.specs.Spelling.{batch_bytes, entity_bytes, fields, head_bytes};
 ghost use Rattle.batch_code.specs.Spelling.{resource_bytes, value_bytes, write_bytes};
-ghost use Rattle.batch_code.specs.Storable.{HasSpelling, IsShort};
+ghost use Rattle.batch_code.specs.Storable.{IsShort, IsStored};
 
 use alto_names::{AneName, Epoch, ImportId};
 use alto_rows::{AneNames, Batch, Entity, Key, Resource, Value, Write};
@@ -15,7 +15,7 @@ use std::alloc::{AllocError, Global};
 /// The bytes of a batch.
 pub fn encode(alloc: Global, batch: &Batch) -> Result<Vec<u8>, AllocError>
     requires few { length batch.now.writes ≤ 16384 }
-    requires writes { All HasSpelling batch.now.writes }
+    requires writes { All IsStored batch.now.writes }
     ensures { IfOk result (λ bytes. bytes.items ≡ batch_bytes batch.now) }
 {
     let mut out = Vec::new(alloc);
@@ -44,7 +44,7 @@ fn push_import(
 /// Writes writes behind their number.
 fn push_list(out: &mut Vec<u8>, writes: &[Write]) -> Result<(), AllocError>
     requires few { length writes.now ≤ 16384 }
-    requires stored { All HasSpelling writes.now }
+    requires stored { All IsStored writes.now }
     ensures { OnOk result (out.new.items
         ≡ out.old.items ++ (number 4 (length writes.now) ++ flat_map write_bytes writes.now)) }
 {
@@ -67,7 +67,7 @@ pub fn encode_head(alloc: Global, epoch: &Epoch, window: u32) -> Result<Vec<u8>,
 
 /// Writes writes.
 fn push_writes(out: &mut Vec<u8>, writes: &[Write]) -> Result<(), AllocError>
-    requires { All HasSpelling writes.now }
+    requires { All IsStored writes.now }
     ensures { OnOk result (out.new.items ≡ out.old.items ++ flat_map write_bytes writes.now) }
 {
     for write in writes {
@@ -78,7 +78,7 @@ fn push_writes(out: &mut Vec<u8>, writes: &[Write]) -> Result<(), AllocError>
 
 /// Writes a write.
 pub(crate) fn push_write(out: &mut Vec<u8>, write: &Write) -> Result<(), AllocError>
-    requires { HasSpelling write.now }
+    requires { IsStored write.now }
     ensures { OnOk result (out.new.items ≡ out.old.items ++ write_bytes write.now) }
 {
     out.push(kind_number(&write.key))?;

@@ -1,6 +1,5 @@
 ghost use Rattle.std.specs.Prelude.{◌≡◌, ◌≢◌, ◌∷◌, ◌++◌, ℕ, List, Ok, IfOk, IfErr, MatchOption};
 ghost use Rattle.alto_names.specs.Name.{named};
-ghost use Rattle.alto_rows.specs.Entities.{HasEntityBits};
 ghost use Rattle.alto_rows.specs.Good.{IsEntity, IsResource};
 ghost use Rattle.code_bytes.specs.Pieces.{Names, name};
 ghost use Rattle.code_bytes.specs.Stuck.{Pair, Stops};
@@ -32,7 +31,7 @@ fn read_names<A: Kind, B: Kind>(
 
 /// Reads an entity.
 fn read_entity(alloc: Global, bytes: &[u8]) -> Result<(Entity, &[u8]), Stop>
-    ensures ok { IfOk result (λ x. IsEntity x.0 × HasEntityBits x.0 × (bytes.now ≡ entity_bytes x.0 ++ x.1.now)) }
+    ensures ok { IfOk result (λ x. IsEntity x.0 × (bytes.now ≡ entity_bytes x.0 ++ x.1.now)) }
     ensures stops { IfErr result (Stops Entities bytes.now) }
 {
     if let Some(rest) = behind_pid(bytes) {

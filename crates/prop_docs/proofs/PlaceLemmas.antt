@@ -29,7 +29,7 @@ use Rattle.alto_maps.proofs.KeyLemmas.{untouched_key}
 use Rattle.net_docs.specs.Differ.{DifferBy}
 use Rattle.net_docs.proofs.ListedLemmas.{same_listed}
 use Rattle.prop_docs.specs.Laws.{OtherKeysTouchNowhere, PropMapsDifferAtPlaces}
-use Rattle.prop_docs.specs.PropertyMap.{first_data, has_bits, is_text_of, prop_place, prop_shape, properties_of, property_in, value_data, value_in, values_of}
+use Rattle.prop_docs.specs.PropertyMap.{first_data, is_text_of, prop_place, prop_shape, properties_of, property_in, value_data, value_in, values_of}
 use Rattle.prop_docs.proofs.FitLemmas.{AllFit, good_fit}
 use Rattle.prop_docs.proofs.ShownLemmas.{has_some, member_is, shown, stands_where}
 
@@ -85,13 +85,12 @@ same_tag net before later keys differ none =
 
 -- a row whose key doesn't touch a group gives its entity no property
 no_property : (net text : Name) (row : Key × Value) → touches_group text (prop_place net row.0) ≡ false → property_in net text row ≡ None
-no_property net text (key.Prop of entity name, v) none = by (same_name net of) (has_bits entity) (same_name text (entity_text net entity)) refl refl refl
+no_property net text (key.Prop of entity name, v) none = by (same_name net of) (same_name text (entity_text net entity)) refl refl
   where
-    by : (a b c : Bool) → same_name net of ≡ a → has_bits entity ≡ b → same_name text (entity_text net entity) ≡ c → property_in net text (key.Prop of entity name, v) ≡ None
-    by true true true e f h = let is : touches_group text (prop_place net (key.Prop of entity name)) ≡ true = rw e h in cc
-    by true true false e f h = rw (e, f, h) refl
-    by true false c e f h = rw (e, f) refl
-    by false b c e f h = rw e refl
+    by : (a b : Bool) → same_name net of ≡ a → same_name text (entity_text net entity) ≡ b → property_in net text (key.Prop of entity name, v) ≡ None
+    by true true e f = let is : touches_group text (prop_place net (key.Prop of entity name)) ≡ true = rw e f in cc
+    by true false e f = rw (e, f) refl
+    by false b e f = rw e refl
 no_property net text _ none = refl
 
 -- the properties of an entity stay where no key touches its group
@@ -103,15 +102,14 @@ same_properties net text before later keys differ none =
 
 -- a row whose key doesn't touch a member gives it no value
 no_value : (net text name : Name) (row : Key × Value) → touches_member text name (prop_place net row.0) ≡ false → value_in net text name row ≡ None
-no_value net text name (key.Prop of entity other, v) none = by (same_name net of) (has_bits entity) (same_name text (entity_text net entity)) (same_name name other) refl refl refl refl
+no_value net text name (key.Prop of entity other, v) none = by (same_name net of) (same_name text (entity_text net entity)) (same_name name other) refl refl refl
   where
-    by : (a b c d : Bool) → same_name net of ≡ a → has_bits entity ≡ b → same_name text (entity_text net entity) ≡ c → same_name name other ≡ d
+    by : (a b c : Bool) → same_name net of ≡ a → same_name text (entity_text net entity) ≡ b → same_name name other ≡ c
         → value_in net text name (key.Prop of entity other, v) ≡ None
-    by true true true true e f h k = let is : touches_member text name (prop_place net (key.Prop of entity other)) ≡ true = rw (e, h, k) refl in cc
-    by true true true false e f h k = rw (e, f, h, k) refl
-    by true true false d e f h k = rw (e, f, h) refl
-    by true false c d e f h k = rw (e, f) refl
-    by false b c d e f h k = rw e refl
+    by true true true e f h = let is : touches_member text name (prop_place net (key.Prop of entity other)) ≡ true = rw (e, f, h) refl in cc
+    by true true false e f h = rw (e, f, h) refl
+    by true false c e f h = rw (e, f) refl
+    by false b c e f h = rw e refl
 no_value net text name _ none = refl
 
 -- the values of a property stay where no key touches its place

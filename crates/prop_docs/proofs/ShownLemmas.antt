@@ -10,7 +10,7 @@ use Rattle.alto_rows.specs.Order.{same_name}
 use Rattle.alto_rows.specs.Rows.{Rows}
 use Rattle.alto_maps.specs.Shape.{Name, member_in, stands}
 use Rattle.alto_maps.proofs.SetLemmas.{any-set_of}
-use Rattle.prop_docs.specs.PropertyMap.{entity_in, first_data, has_bits, is_text_of, prop_face, properties_of, values_of}
+use Rattle.prop_docs.specs.PropertyMap.{entity_in, first_data, is_text_of, prop_face, properties_of, values_of}
 
 -- a list has something
 abbrev pub has_some : {A : Type 0} → List A → Bool
@@ -22,15 +22,14 @@ has_some (first ∷ rest) = true
 -- a row gives an entity of this text a property where it gives one to the entity of this text
 texts_any : (net text : Name) (rows : Rows) → list_any (same_name text) (filter_map (entity_in net) rows) ≡ has_some (properties_of rows net text)
 texts_any net text [] = refl
-texts_any net text ((key.Prop of entity name, v) ∷ rows) = by (same_name net of) (has_bits entity) (same_name text (entity_text net entity)) refl refl refl (texts_any net text rows)
+texts_any net text ((key.Prop of entity name, v) ∷ rows) = by (same_name net of) (same_name text (entity_text net entity)) refl refl (texts_any net text rows)
   where
-    by : (a b c : Bool) → same_name net of ≡ a → has_bits entity ≡ b → same_name text (entity_text net entity) ≡ c
+    by : (a b : Bool) → same_name net of ≡ a → same_name text (entity_text net entity) ≡ b
         → list_any (same_name text) (filter_map (entity_in net) rows) ≡ has_some (properties_of rows net text)
         → list_any (same_name text) (filter_map (entity_in net) ((key.Prop of entity name, v) ∷ rows)) ≡ has_some (properties_of ((key.Prop of entity name, v) ∷ rows) net text)
-    by true true true e f h below = rw (e, f, h) refl
-    by true true false e f h below = rw (e, f, h) below
-    by true false c e f h below = rw (e, f) below
-    by false b c e f h below = rw e below
+    by true true e f below = rw (e, f) refl
+    by true false e f below = rw (e, f) below
+    by false b e f below = rw e below
 texts_any net text (_ ∷ rows) = texts_any net text rows
 
 -- a group stands where its entity has a property

@@ -1,11 +1,9 @@
 -- Which entity a text is the text of.
-use Rattle.std.proofs.Common.{◌≡◌, refl, sym, subst, ltb-true}
+use Rattle.std.proofs.Common.{◌≡◌, refl, sym, subst}
 use Rattle.std.specs.Cmp.Lexicographic.{same_text}
-use Rattle.std.specs.Prelude.{Bool, true, false, ◌↔◌, ◌^◌, cond, Option, Some, None}
-use Rattle.alto_addr.specs.Bits.{number_of, width_of}
+use Rattle.std.specs.Prelude.{Bool, true, false, ◌↔◌, cond, Option, Some, None}
 use Rattle.alto_rows.specs.declared.entity.Entity.{Entity}
-use Rattle.alto_rows.specs.declared.entity.Entity.TheVariants as entity
-use Rattle.alto_rows.specs.Entities.{HasEntityBits, WritesEntity, entity_text}
+use Rattle.alto_rows.specs.Entities.{WritesEntity, entity_text}
 use Rattle.alto_rows.specs.Good.{IsEntity}
 use Rattle.alto_rows.specs.Order.{entity_cmp, same_name}
 use Rattle.alto_rows.specs.Span.{same_entity}
@@ -13,7 +11,7 @@ use Rattle.alto_rows.proofs.EntityLemmas.{entity_as_written}
 use Rattle.alto_rows.proofs.OrderLemmas.{entity_cmp_exact, entity_cmp_total, equal_tests}
 use Rattle.std.proofs.lemmas.Cmp.{tied_itself}
 use Rattle.alto_maps.specs.Shape.{Name}
-use Rattle.prop_docs.specs.PropertyMap.{has_bits, is_text_of}
+use Rattle.prop_docs.specs.PropertyMap.{is_text_of}
 use Rattle.prop_docs.specs.Properties.{if_text_of, is_found}
 
 -- entities that test as the same are one
@@ -24,32 +22,14 @@ one_entity a b h = entity_cmp_exact a b (equal_tests (entity_cmp a b) h)
 pub same_itself : (a : Entity) → same_entity a a ≡ true
 same_itself a = rw (tied_itself entity_cmp_total a) refl
 
--- what the test of bits says
-bits_of : (entity : Entity) → has_bits entity ≡ true → HasEntityBits entity
-bits_of (entity.Block block) h = ltb-true (number_of block.addr) (2 ^ width_of block.addr) h
-bits_of (entity.Pid pid) h = tt
-
 -- a text of an entity is what is written of it
 text_is : (net text : Name) (entity : Entity) → is_text_of net text entity ≡ true → text ≡ entity_text net entity
-text_is net text entity h = by (has_bits entity) (same_name text (entity_text net entity)) refl refl
-  where
-    by : (a b : Bool) → has_bits entity ≡ a → same_name text (entity_text net entity) ≡ b → text ≡ entity_text net entity
-    by true true e f = same_text text (entity_text net entity) (sym f)
-    by true false e f = let no : false ≡ true = rw (e, f) at h in cc
-    by false b e f = let no : false ≡ true = rw e at h in cc
-
--- and it has the bits of its family
-text_bits : (net text : Name) (entity : Entity) → is_text_of net text entity ≡ true → has_bits entity ≡ true
-text_bits net text entity h = by (has_bits entity) refl
-  where
-    by : (a : Bool) → has_bits entity ≡ a → has_bits entity ≡ true
-    by true e = e
-    by false e = let no : false ≡ true = rw e at h in cc
+text_is net text entity h = same_text text (entity_text net entity) (sym h)
 
 -- so the text writes the entity
 written : (net text : Name) (entity : Entity) → IsEntity entity → is_text_of net text entity ≡ true → WritesEntity net text entity
 written net text entity is h =
-    subst (λ t. WritesEntity net t entity) (sym (text_is net text entity h)) (entity_as_written net entity is (bits_of entity (text_bits net text entity h)))
+    subst (λ t. WritesEntity net t entity) (sym (text_is net text entity h)) (entity_as_written net entity is)
 
 -- what was read of the bytes of a text
 pub reads_as : (net text bytes : Name) (found read : Option Entity) → bytes ≡ text → found ≡ read → ((other : Entity) → WritesEntity net bytes other ↔ (found ≡ Some other))

@@ -1,11 +1,9 @@
 -- The property map of a network (RFC 9240, section 8): each entity that has properties, with their names and values.
-use Rattle.std.specs.Prelude.{◌^◌, nat_lt, Bool, true, ◌&&◌, List, [], ◌∷◌, Option, Some, None, codes, if◌then◌else◌}
+use Rattle.std.specs.Prelude.{Bool, ◌&&◌, List, [], ◌∷◌, Option, Some, None, codes, if◌then◌else◌}
 use Rattle.std.specs.List.{filter_map}
 use Rattle.serde_json.specs.Data.{Data, null, number, string, unsigned}
 use Rattle.json_tree.specs.Document.{object_of}
-use Rattle.alto_addr.specs.Bits.{number_of, width_of}
 use Rattle.alto_rows.specs.declared.entity.Entity.{Entity}
-use Rattle.alto_rows.specs.declared.entity.Entity.TheVariants as entity
 use Rattle.alto_rows.specs.declared.key.Key.{Key}
 use Rattle.alto_rows.specs.declared.key.Key.TheVariants as key
 use Rattle.alto_rows.specs.declared.resource.Resource.TheVariants as resource
@@ -20,19 +18,14 @@ use Rattle.alto_maps.specs.declared.place.Place.{Place}
 use Rattle.alto_maps.specs.declared.place.Place.TheVariants as place
 use Rattle.net_docs.specs.NetworkMap.{dependent_tags}
 
--- the address of a block is one of as many bits as its family has, as each is in a program
-abbrev pub has_bits : Entity → Bool
-has_bits (entity.Block block) = nat_lt (number_of block.addr) (2 ^ width_of block.addr)
-has_bits (entity.Pid pid) = true
-
 -- the text is what is written of this entity of a network (section 5.1.3)
 abbrev pub is_text_of : Name → Name → Entity → Bool
-is_text_of net text entity = has_bits entity && same_name text (entity_text net entity)
+is_text_of net text entity = same_name text (entity_text net entity)
 
 -- the text of the entity that a row gives a property
 abbrev pub entity_in : Name → Key × Value → Option Name
 entity_in net (key.Prop of entity name, v) =
-    if same_name net of && has_bits entity then Some (entity_text net entity) else None
+    if same_name net of then Some (entity_text net entity) else None
 entity_in net _ = None
 
 -- the texts of the entities that have properties, in byte order

@@ -1,11 +1,10 @@
 //! Entities and their texts (RFC 9240, section 5.1.3).
-ghost use Rattle.std.specs.Prelude.{◌≡◌, true, IfOk};
+ghost use Rattle.std.specs.Prelude.{◌≡◌, IfOk};
 ghost use Rattle.alto_rows.specs.Good.{IsEntity};
 ghost use Rattle.alto_rows.specs.declared.entity.Entity.{Entity as TheEntity};
 ghost use Rattle.prop_docs.specs.Properties.{if_text_of, is_found};
 ghost use Rattle.prop_docs.specs.PropertyMap as spec;
 
-use alto_addr::Addr;
 use alto_names::NetName;
 use alto_rows::{Entity, Key, RowStore, Span, Value, print_entity, read_entity, rows_in};
 use json_tree::Name;
@@ -35,10 +34,7 @@ fn entity_in(alloc: Global, net: &NetName, row: &(Key, Value)) -> Result<Option<
     ensures { IfOk result (λ text. text ≡ spec.entity_in net.now row.now) }
 {
     match &row.0 {
-        Key::Prop(of, entity, _) if net == of => {
-            has_bits(entity);
-            Ok(Some(print_entity(alloc, net, entity)?))
-        }
+        Key::Prop(of, entity, _) if net == of => Ok(Some(print_entity(alloc, net, entity)?)),
         _ => Ok(None),
     }
 }
@@ -68,24 +64,10 @@ fn if_text_of(
 ) -> Result<Option<Entity>, AllocError>
     ensures { IfOk result (λ found. found ≡ if_text_of net.now text.now entity) }
 {
-    has_bits(&entity);
     let printed = print_entity(alloc, net, &entity)?;
     if *text == printed {
         Ok(Some(entity))
     } else {
         Ok(None)
-    }
-}
-
-/// An entity has an address of as many bits as its family has.
-fn has_bits(entity: &Entity)
-    ensures { spec.has_bits entity.now ≡ true }
-{
-    if let Entity::Block(block) = entity {
-        let prefix = block.prefix();
-        match prefix.addr {
-            Addr::V4(_) => {}
-            Addr::V6(_) => {}
-        }
     }
 }

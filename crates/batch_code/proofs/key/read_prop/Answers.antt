@@ -24,4 +24,4 @@ returns-in_err-property-clause-stops c =
     let p = err_from_is_err_and c.from_residual-in_err-property.result c.from_residual-in_err-property.ensures.1 in
     rw (p.1, p.2) (pair_next NetNames (Pair Entities PropNames) c.args.bytes.now (name c.in_ok-net.net) c.in_ok-net.rest.now c.in_err-property.field-0.0 net_grammar (is_text is_net_byte 24 c.in_ok-net.net c.in_ok-net.ensures.ok.0)
     c.in_ok-net.ensures.ok.1 (pair_next Entities PropNames c.in_ok-net.rest.now (entity_bytes c.in_ok-entity.entity) c.in_ok-entity.rest.now c.in_err-property.field-0.0 entities_grammar
-    (is_entity c.in_ok-entity.entity c.in_ok-entity.ensures.ok.0 c.in_ok-entity.ensures.ok.1) c.in_ok-entity.ensures.ok.2 c.in_err-property.ensures.stops))
+    (is_entity c.in_ok-entity.entity c.in_ok-entity.ensures.ok.0) c.in_ok-entity.ensures.ok.1 c.in_err-property.ensures.stops))
