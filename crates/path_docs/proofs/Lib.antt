@@ -1,0 +1,4 @@
+pub mod ValuedLemmas
+pub mod RowLemmas
+pub mod ShownLemmas
+pub mod AneLemmas

@@ -1,0 +1,6 @@
+pub mod Fields
+pub mod Ask
+pub mod PathCosts
+pub mod PathProperties
+pub mod Found
+pub mod Multipart
