@@ -23,13 +23,13 @@ pub(crate) enum Scale {
 
 /// A cost type's metric, and how its costs are told.
 #[derive(Drop)]
-pub(crate) struct Column {
+pub struct Column {
     pub(crate) metric: Metric,
     pub(crate) scale: Scale,
 }
 
 /// Those of types. For each ordinal one, one walk over its metric's rows.
-pub(crate) fn columns_of<R: RowStore>(
+pub fn columns_of<R: RowStore>(
     alloc: Global,
     rows: &R,
     net: &NetName,
@@ -76,7 +76,7 @@ fn scale_of<R: RowStore>(
 }
 
 /// The costs of a pair in these columns. One search for each.
-pub(crate) fn costs_in<R: RowStore>(
+pub fn costs_in<R: RowStore>(
     alloc: Global,
     rows: &R,
     net: &NetName,
@@ -96,7 +96,7 @@ pub(crate) fn costs_in<R: RowStore>(
 }
 
 /// The costs of a pair that constraints test. One search for each type.
-pub(crate) fn tested_costs<R: RowStore>(
+pub fn tested_costs<R: RowStore>(
     alloc: Global,
     rows: &R,
     net: &NetName,

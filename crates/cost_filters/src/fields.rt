@@ -10,7 +10,7 @@ use json_tree::{Name, Tree};
 use std::alloc::{AllocError, Global};
 
 /// The field of a member of a field's value.
-pub(crate) fn nested(alloc: Global, field: &str, name: &str) -> Result<String, AllocError>
+pub fn nested(alloc: Global, field: &str, name: &str) -> Result<String, AllocError>
     ensures { IfOk result (λ path. string_bytes path ≡ nested field.now name.now) }
 {
     format!(in alloc; "{field}/{name}")
@@ -41,11 +41,7 @@ pub(crate) fn wrong_member(
 }
 
 /// The value of a field, if it is an object.
-pub(crate) fn object_in<'t>(
-    alloc: Global,
-    field: &str,
-    value: &'t Tree,
-) -> Result<&'t Tree, AskFault>
+pub fn object_in<'t>(alloc: Global, field: &str, value: &'t Tree) -> Result<&'t Tree, AskFault>
     ensures ok { IfOk result (λ object. object_in field.now (data_of value.now) ≡ Ok (data_of object.now)) }
     ensures err { IfErr result (λ fault. fault ≢ AskFault.Memory
         → object_in field.now (data_of value.now) ≡ Err fault) }
@@ -99,7 +95,7 @@ pub(crate) fn text_at<'t>(
 }
 
 /// The items of the list that the value of a field may have in a member, none where it has no such member.
-pub(crate) fn items_at<'t>(
+pub fn items_at<'t>(
     alloc: Global,
     field: &str,
     name: &str,

@@ -196,14 +196,14 @@ fn pair_value<R: RowStore>(
 }
 
 /// Whether there is a cost.
-fn has_cost(costs: &[Option<u64>]) -> bool
+pub fn has_cost(costs: &[Option<u64>]) -> bool
     ensures { result ≡ list_any (λ cost. is_some cost) costs.now }
 {
     costs.iter().any(|cost| cost.is_some())
 }
 
 /// Whether all constraints of one of the lists hold of a pair with these costs.
-fn one_holds(alternatives: &[Vec<Constraint>], costs: &[Option<u64>]) -> bool
+pub fn one_holds(alternatives: &[Vec<Constraint>], costs: &[Option<u64>]) -> bool
     ensures { result ≡ one_holds costs.now (map (λ constraints. constraints.items) alternatives.now) }
 {
     cost_rule::one_holds(alternatives, costs)

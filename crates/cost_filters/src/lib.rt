@@ -19,6 +19,9 @@ mod types;
 mod values;
 
 pub use ask::{CostAsk, read_cost_ask};
+pub use columns::{Column, columns_of, costs_in, tested_costs};
 pub use constraints::{Tests, read_constraints};
-pub use filter::filter_cost;
+pub use fields::{items_at, nested, object_in};
+pub use filter::{filter_cost, has_cost, one_holds};
 pub use types::{AskedTypes, CostType, read_types};
+pub use values::{costs_data, types_data, types_name};

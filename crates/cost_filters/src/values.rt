@@ -9,11 +9,7 @@ use json_tree::{Members, Tree};
 use std::alloc::{AllocError, Global};
 
 /// The costs of a pair: in the form of several a list, else the one.
-pub(crate) fn costs_data(
-    alloc: Global,
-    multi: bool,
-    costs: &[Option<u64>],
-) -> Result<Tree, AllocError>
+pub fn costs_data(alloc: Global, multi: bool, costs: &[Option<u64>]) -> Result<Tree, AllocError>
     ensures { IfOk result (λ tree. data_of tree ≡ costs_data multi costs.now) }
 {
     if multi {
@@ -45,7 +41,7 @@ fn number_data(cost: Option<u64>) -> Tree
 }
 
 /// The name of the member that tells the cost types.
-pub(crate) fn types_name(multi: bool) -> &'static str
+pub fn types_name(multi: bool) -> &'static str
     ensures { result.now ≡ types_name multi }
 {
     if multi {
@@ -56,7 +52,7 @@ pub(crate) fn types_name(multi: bool) -> &'static str
 }
 
 /// The cost types: in the form of several a list, else the one.
-pub(crate) fn types_data(alloc: Global, multi: bool, types: &[CostType]) -> Result<Tree, AllocError>
+pub fn types_data(alloc: Global, multi: bool, types: &[CostType]) -> Result<Tree, AllocError>
     ensures { IfOk result (λ tree. data_of tree ≡ types_data multi types.now) }
 {
     if multi {

@@ -1,0 +1,4 @@
+pub mod Reading
+pub mod Ask
+pub mod Costs
+pub mod Laws
