@@ -20,4 +20,5 @@ pub use ask::{PropAsk, read_prop_ask};
 pub use document::{prop_doc, prop_text};
 pub use laws::prop_maps_differ_at_places;
 pub use places::prop_places;
+pub use properties::value_tree;
 pub use source::PropMap;

@@ -104,14 +104,14 @@ fn object_of(alloc: Global, properties: &[Property<'_>]) -> Result<Tree, AllocEr
         members.put(
             alloc,
             property.name.as_str(),
-            tree_of(alloc, property.value)?,
+            value_tree(alloc, property.value)?,
         )?;
     }
     Ok(members.into_tree())
 }
 
-/// A value as JSON.
-pub(crate) fn tree_of(alloc: Global, value: &Value) -> Result<Tree, AllocError>
+/// The value of a property as JSON. A copy of a text; no memory for a number.
+pub fn value_tree(alloc: Global, value: &Value) -> Result<Tree, AllocError>
     ensures { IfOk result (λ tree. data_of tree ≡ value_data value.now) }
 {
     match value {

@@ -10,7 +10,7 @@ ghost use Rattle.alto_rows.specs.declared.key.Key.TheVariants as key;
 ghost use Rattle.prop_docs.specs.PropertyMap.{prop_face, prop_meta, value_data};
 
 use crate::entities::{entities_of, entity_named};
-use crate::properties::{group, tree_of};
+use crate::properties::{group, value_tree};
 use crate::writing::{write_groups, write_meta};
 use alto_maps::{MapSource, Walked};
 use alto_names::{NameFault, NetName, PropName};
@@ -212,7 +212,7 @@ fn value_at<R: RowStore>(alloc: Global, rows: &R, key: Key) -> Result<Option<Tre
     ensures { IfOk result (λ value. option_map data_of value ≡ option_map value_data (value_of (R.rows rows.now) key)) }
 {
     match rows.get(&key) {
-        Some(value) => Ok(Some(tree_of(alloc, value)?)),
+        Some(value) => Ok(Some(value_tree(alloc, value)?)),
         None => Ok(None),
     }
 }

@@ -1,0 +1,5 @@
+pub mod InheritLemmas
+pub mod CutLemmas
+pub mod PidLemmas
+pub mod GroupLemmas
+pub mod RepeatLemmas

@@ -1,0 +1,4 @@
+pub mod Inherit
+pub mod Filter
+pub mod Laws
+pub mod Repeats
