@@ -1,8 +1,10 @@
+pub mod AskLemmas
 pub mod AuthorityLemmas
 pub mod EdgeLemmas
 pub mod EdgeNumberLemmas
 pub mod HeldLemmas
 pub mod LookupLemmas
 pub mod NamedLemmas
+pub mod SeenLemmas
 pub mod UniqueLemmas
 pub mod ViewLemmas

@@ -16,10 +16,14 @@ use Rattle.alto_answers.specs.declared.route.Side.TheVariants as side
 -- the routes of applications
 abbrev pub public_routes : List (List ℕ × Place)
 public_routes =
-    (codes "/maps/{resource}", place.Maps)
+    (codes "/directory", place.Directory)
+    ∷ (codes "/maps/{resource}", place.Maps)
     ∷ (codes "/lookup/{net}/{address}", place.Lookup)
     ∷ (codes "/filter/net/{net}", place.Query query.NetworkMap)
     ∷ (codes "/filter/cost/{net}", place.Query query.CostMap)
+    ∷ (codes "/endpointcost/{net}", place.Query query.EndpointCosts)
+    ∷ (codes "/filter/prop/{net}", place.Query query.PropertyMap)
+    ∷ (codes "/pathvector/{net}", place.Query query.PathVector)
     ∷ (codes "/tips", place.Tips)
     ∷ (codes "/tips/{resource}/ug/{i}/{j}", place.Edge)
     ∷ []

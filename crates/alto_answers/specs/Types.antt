@@ -15,6 +15,18 @@ cost_map_type = codes "application/alto-costmap+json"
 abbrev pub property_map_type : List ℕ
 property_map_type = codes "application/alto-propmap+json"
 
+-- the media type of costs between addresses
+abbrev pub endpoint_cost_type : List ℕ
+endpoint_cost_type = codes "application/alto-endpointcost+json"
+
+-- the media type of a path vector, which has two parts (RFC 9275, section 7.2.6)
+abbrev pub path_vector_type : List ℕ
+path_vector_type = codes "multipart/related;boundary=alto-part;type=\"application/alto-costmap+json\""
+
+-- the media type of the directory (RFC 7285, section 9.2.1)
+abbrev pub directory_type : List ℕ
+directory_type = codes "application/alto-directory+json"
+
 -- the media type of a resource's document
 abbrev pub media_type_of : Resource → List ℕ
 media_type_of (resource.Net net) = network_map_type

@@ -1,51 +1,57 @@
-//! Queries of a network by a body: filtered maps (RFC 7285, section 11.3; RFC 8189, section 4.2).
+//! Queries of a network by a body: filtered maps (RFC 7285, section 11.3; RFC 8189, section 4.1; RFC 9240, section 8),
+//! costs between addresses (RFC 7285, section 11.5) and path vectors (RFC 9275, section 7.2).
 ghost use Rattle.std.specs.Prelude.{◌≡◌, ◌≢◌, true, Ok, Err, IfOk, IfErr};
 ghost use Rattle.std.specs.Str.{str_to_ascii_lowercase};
 ghost use Rattle.json_tree.specs.Tree.{data_of};
+ghost use Rattle.alto_book.specs.Book.{Book};
+ghost use Rattle.alto_desk.specs.Front.{StandsFor, tables_in};
 ghost use Rattle.alto_rows.specs.declared.key.Key.TheVariants as key;
 ghost use Rattle.alto_rows.specs.Good.{AreGood};
 ghost use Rattle.alto_rows.specs.Rows.{has_row};
 ghost use Rattle.alto_replies.specs.Reply.{IsReply};
-ghost use Rattle.alto_answers.specs.Answers.{BringsEdits, HasBytes};
+ghost use Rattle.alto_answers.specs.Answers.{BringsEdits, HasBytes, seen_at};
 ghost use Rattle.alto_answers.specs.Target.{segment};
 ghost use Rattle.alto_answers.specs.Queries as spec;
-ghost use Rattle.alto_answers.specs.Queries.{asked, net_named, net_segment, queried, query_answer, query_reply};
+ghost use Rattle.alto_asks.specs.Asks.{ask_of};
+ghost use Rattle.alto_answers.specs.Queries.{Asked, Queried, QueryAnswer, QueryReply, net_named, net_segment, seen_in};
 
+use crate::client::Client;
 use crate::content::has_type;
+use crate::filters::{costs, endpoints, network, paths, properties};
 use crate::nets::find_net;
 use crate::outcome::Answer;
 use crate::route::Query;
 use crate::target::segment;
-use crate::types::{COST_MAP, NETWORK_MAP};
 use alto_asks::{AskFault, read_ask};
+use alto_desk::Front;
 use alto_http::{Request, Verb};
 use alto_names::NetName;
-use alto_replies::{Reply, document_reply, not_found, reply_or_error, status_alone, wrong_method};
+use alto_replies::{Reply, not_found, reply_or_error, status_alone, wrong_method};
 use alto_rows::RowStore;
-use cost_filters::{filter_cost, read_cost_ask};
 use json_tree::Tree;
-use net_docs::{filter_net, read_net_ask};
 use std::alloc::{AllocError, Global};
 
 /// What a query comes to of the network that a path names.
 pub(crate) fn query<R: RowStore>(
     alloc: Global,
-    rows: &R,
+    front: &Front<R>,
+    client: &Client,
     request: &Request,
     of: Query,
     path: &[u8],
 ) -> Result<Answer, AllocError>
-    requires { AreGood (R.rows rows.now) }
+    requires good { AreGood front.now.rows }
+    requires tables { front.now.tables ≡ tables_in front.now.rows }
     ensures has_bytes { IfOk result HasBytes }
     ensures edits { IfOk result BringsEdits }
-    ensures answer { IfOk result (λ answer. answer
-        ≡ query_answer of request.now.verb request.now.content_type (R.rows rows.now)
-        (segment path.now (net_segment of)) request.now.body) }
+    ensures answer { IfOk result (λ answer. (book : Book) → StandsFor front.now book
+        → QueryAnswer of request.now.verb request.now.content_type (seen_at book client.now.peer)
+        (segment path.now (net_segment of)) request.now.body answer) }
 {
     match request.verb {
         Verb::Post => {
             let text = segment(alloc, path, net_segment(of))?;
-            posted(alloc, rows, request, of, &text)
+            posted(alloc, front, client, request, of, &text)
         }
         Verb::Get | Verb::Other => Ok(Answer::Reply(wrong_method(alloc, Verb::Post)?)),
     }
@@ -53,19 +59,22 @@ pub(crate) fn query<R: RowStore>(
 
 fn posted<R: RowStore>(
     alloc: Global,
-    rows: &R,
+    front: &Front<R>,
+    client: &Client,
     request: &Request,
     of: Query,
     text: &[u8],
 ) -> Result<Answer, AllocError>
-    requires { AreGood (R.rows rows.now) }
+    requires good { AreGood front.now.rows }
+    requires tables { front.now.tables ≡ tables_in front.now.rows }
     ensures has_bytes { IfOk result HasBytes }
     ensures edits { IfOk result BringsEdits }
-    ensures answer { IfOk result (λ answer. answer
-        ≡ query_answer of Verb.Post request.now.content_type (R.rows rows.now) text.now request.now.body) }
+    ensures answer { IfOk result (λ answer. QueryAnswer of Verb.Post request.now.content_type
+        (seen_in front.now client.now.peer) text.now request.now.body answer) }
 {
     if has_type(request, body_type(of)) {
-        Ok(Answer::Reply(query_reply(alloc, rows, of, text, &request.body)?))
+        let reply = query_reply(alloc, front, client, of, text, &request.body)?;
+        Ok(Answer::Reply(reply))
     } else {
         Ok(Answer::Reply(status_alone(alloc, 415)?))
     }
@@ -78,7 +87,9 @@ fn body_type(of: Query) -> &'static [u8]
 {
     match of {
         Query::NetworkMap => b"application/alto-networkmapfilter+json",
-        Query::CostMap => b"application/alto-costmapfilter+json",
+        Query::CostMap | Query::PathVector => b"application/alto-costmapfilter+json",
+        Query::EndpointCosts => b"application/alto-endpointcostparams+json",
+        Query::PropertyMap => b"application/alto-propmapparams+json",
     }
 }
 
@@ -87,26 +98,29 @@ fn net_segment(of: Query) -> usize
     ensures { result ≡ net_segment of }
 {
     match of {
-        Query::NetworkMap | Query::CostMap => 3,
+        Query::NetworkMap | Query::CostMap | Query::PropertyMap => 3,
+        Query::EndpointCosts | Query::PathVector => 2,
     }
 }
 
 /// What the network that a text names answers to a body, if it is declared.
 fn query_reply<R: RowStore>(
     alloc: Global,
-    rows: &R,
+    front: &Front<R>,
+    client: &Client,
     of: Query,
     text: &[u8],
     body: &[u8],
 ) -> Result<Reply, AllocError>
-    requires { AreGood (R.rows rows.now) }
+    requires good { AreGood front.now.rows }
+    requires tables { front.now.tables ≡ tables_in front.now.rows }
     ensures has_bytes { IfOk result IsReply }
-    ensures reply { IfOk result (λ reply. reply
-        ≡ query_reply of (R.rows rows.now) (net_named (R.rows rows.now) text.now) body.now) }
+    ensures reply { IfOk result (QueryReply of (seen_in front.now client.now.peer)
+        (net_named front.now.rows text.now) body.now) }
 {
-    match find_net(alloc, rows, text)? {
+    match find_net(alloc, &*front.rows, text)? {
         Some(net) => {
-            let answer = asked(alloc, rows, of, &net, body);
+            let answer = asked(alloc, front, client, of, &net, body);
             reply_or_error(alloc, answer)
         }
         None => not_found(alloc, "resource"),
@@ -116,79 +130,48 @@ fn query_reply<R: RowStore>(
 /// What a declared network answers to a body, or the body's first fault.
 fn asked<R: RowStore>(
     alloc: Global,
-    rows: &R,
+    front: &Front<R>,
+    client: &Client,
     of: Query,
     net: &NetName,
     body: &[u8],
 ) -> Result<Reply, AskFault>
-    requires good { AreGood (R.rows rows.now) }
-    requires declared { has_row (R.rows rows.now) (key.Net net.now) ≡ true }
+    requires good { AreGood front.now.rows }
+    requires tables { front.now.tables ≡ tables_in front.now.rows }
+    requires declared { has_row front.now.rows (key.Net net.now) ≡ true }
     ensures has_bytes { IfOk result IsReply }
-    ensures ok { IfOk result (λ reply. asked of (R.rows rows.now) net.now body.now ≡ Ok reply) }
+    ensures ok { IfOk result (λ reply.
+        Asked of (seen_in front.now client.now.peer) net.now (ask_of body.now) (Ok reply)) }
     ensures err { IfErr result (λ fault. fault ≢ AskFault.Memory
-        → asked of (R.rows rows.now) net.now body.now ≡ Err fault) }
+        → Asked of (seen_in front.now client.now.peer) net.now (ask_of body.now) (Err fault)) }
 {
-    let object = read_ask(alloc, body)?;
-    queried(alloc, rows, of, net, &object)
+    let value = read_ask(alloc, body)?;
+    queried(alloc, front, client, of, net, &value)
 }
 
-/// What a declared network answers to an object, or the object's first fault.
+/// What a declared network answers to the object that a body is, or the object's first fault.
 fn queried<R: RowStore>(
     alloc: Global,
-    rows: &R,
+    front: &Front<R>,
+    client: &Client,
     of: Query,
     net: &NetName,
-    object: &Tree,
+    value: &Tree,
 ) -> Result<Reply, AskFault>
-    requires good { AreGood (R.rows rows.now) }
-    requires declared { has_row (R.rows rows.now) (key.Net net.now) ≡ true }
+    requires good { AreGood front.now.rows }
+    requires tables { front.now.tables ≡ tables_in front.now.rows }
+    requires declared { has_row front.now.rows (key.Net net.now) ≡ true }
     ensures has_bytes { IfOk result IsReply }
-    ensures ok { IfOk result (λ reply. queried of (R.rows rows.now) net.now (data_of object.now) ≡ Ok reply) }
+    ensures ok { IfOk result (λ reply.
+        Queried of (seen_in front.now client.now.peer) net.now (data_of value.now) (Ok reply)) }
     ensures err { IfErr result (λ fault. fault ≢ AskFault.Memory
-        → queried of (R.rows rows.now) net.now (data_of object.now) ≡ Err fault) }
+        → Queried of (seen_in front.now client.now.peer) net.now (data_of value.now) (Err fault)) }
 {
     match of {
-        Query::NetworkMap => network(alloc, rows, net, object),
-        Query::CostMap => costs(alloc, rows, net, object),
+        Query::NetworkMap => network(alloc, front, client, net, value),
+        Query::CostMap => costs(alloc, front, client, net, value),
+        Query::EndpointCosts => endpoints(alloc, front, client, net, value),
+        Query::PropertyMap => properties(alloc, front, client, net, value),
+        Query::PathVector => paths(alloc, front, client, net, value),
     }
-}
-
-/// The network's map, cut to what an object asks, or the object's first fault.
-fn network<R: RowStore>(
-    alloc: Global,
-    rows: &R,
-    net: &NetName,
-    object: &Tree,
-) -> Result<Reply, AskFault>
-    requires good { AreGood (R.rows rows.now) }
-    requires declared { has_row (R.rows rows.now) (key.Net net.now) ≡ true }
-    ensures has_bytes { IfOk result IsReply }
-    ensures ok { IfOk result (λ reply.
-        queried Query.NetworkMap (R.rows rows.now) net.now (data_of object.now) ≡ Ok reply) }
-    ensures err { IfErr result (λ fault. fault ≢ AskFault.Memory
-        → queried Query.NetworkMap (R.rows rows.now) net.now (data_of object.now) ≡ Err fault) }
-{
-    let ask = read_net_ask(alloc, object)?;
-    let map = filter_net(alloc, rows, net, &ask)?;
-    Ok(document_reply(alloc, NETWORK_MAP, &map)?)
-}
-
-/// The network's costs of the types that an object asks for, cut to what it asks, or the object's first fault.
-fn costs<R: RowStore>(
-    alloc: Global,
-    rows: &R,
-    net: &NetName,
-    object: &Tree,
-) -> Result<Reply, AskFault>
-    requires good { AreGood (R.rows rows.now) }
-    requires declared { has_row (R.rows rows.now) (key.Net net.now) ≡ true }
-    ensures has_bytes { IfOk result IsReply }
-    ensures ok { IfOk result (λ reply.
-        queried Query.CostMap (R.rows rows.now) net.now (data_of object.now) ≡ Ok reply) }
-    ensures err { IfErr result (λ fault. fault ≢ AskFault.Memory
-        → queried Query.CostMap (R.rows rows.now) net.now (data_of object.now) ≡ Err fault) }
-{
-    let ask = read_cost_ask(alloc, rows, net, object)?;
-    let map = filter_cost(alloc, rows, net, &ask)?;
-    Ok(document_reply(alloc, COST_MAP, &map)?)
 }

@@ -16,6 +16,8 @@ pub enum Place {
     Maps,
     /// `/lookup/{net}/{address}`: the PID of an address in a network.
     Lookup,
+    /// `/directory`: what there is to ask for.
+    Directory,
     /// A query of a network by a body.
     Query(Query),
     /// `/tips`: the view of a resource.
@@ -33,4 +35,10 @@ pub enum Query {
     NetworkMap,
     /// `/filter/cost/{net}`: a filtered cost map.
     CostMap,
+    /// `/endpointcost/{net}`: costs between addresses.
+    EndpointCosts,
+    /// `/filter/prop/{net}`: a filtered property map.
+    PropertyMap,
+    /// `/pathvector/{net}`: paths, and properties of what they lead through.
+    PathVector,
 }

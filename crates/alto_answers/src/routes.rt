@@ -10,6 +10,8 @@ use std::alloc::{AllocError, Global};
 use std::marker::Model;
 use std::str;
 
+const DIRECTORY: &str = "/directory";
+
 const MAPS: &str = "/maps/{resource}";
 
 const LOOKUP: &str = "/lookup/{net}/{address}";
@@ -17,6 +19,12 @@ const LOOKUP: &str = "/lookup/{net}/{address}";
 const FILTER_NET: &str = "/filter/net/{net}";
 
 const FILTER_COST: &str = "/filter/cost/{net}";
+
+const ENDPOINT_COST: &str = "/endpointcost/{net}";
+
+const FILTER_PROP: &str = "/filter/prop/{net}";
+
+const PATH_VECTOR: &str = "/pathvector/{net}";
 
 const TIPS: &str = "/tips";
 
@@ -80,10 +88,18 @@ fn public_router(alloc: Global) -> Result<Router<Place>, AllocError>
     ensures { IfOk result (λ router. router ≡ router_of side.Public) }
 {
     let mut router = Router::new(alloc);
+    add(&mut router, DIRECTORY, Place::Directory)?;
     add(&mut router, MAPS, Place::Maps)?;
     add(&mut router, LOOKUP, Place::Lookup)?;
     add(&mut router, FILTER_NET, Place::Query(Query::NetworkMap))?;
     add(&mut router, FILTER_COST, Place::Query(Query::CostMap))?;
+    add(
+        &mut router,
+        ENDPOINT_COST,
+        Place::Query(Query::EndpointCosts),
+    )?;
+    add(&mut router, FILTER_PROP, Place::Query(Query::PropertyMap))?;
+    add(&mut router, PATH_VECTOR, Place::Query(Query::PathVector))?;
     add(&mut router, TIPS, Place::Tips)?;
     add(&mut router, EDGE, Place::Edge)?;
     Ok(router)

@@ -1,6 +1,7 @@
 -- What a run of the program comes to.
-use Rattle.std.specs.Prelude.{◌≡◌, ◌⊎◌, ℕ, true, List, take, Option, codes, [], ◌∷◌, ◌++◌}
+use Rattle.std.specs.Prelude.{◌≡◌, ◌⊎◌, ℕ, true, List, take, Option, None, codes, [], ◌∷◌, ◌++◌}
 use Rattle.alto_answers.specs.declared.route.Side.TheVariants as side
+use Rattle.alto_answers.specs.Answers.{client_of}
 use Rattle.alto_book.specs.Book.{opening_book}
 use Rattle.alto_serve.specs.Connections.{Serves, state}
 use Rattle.alto_serve.specs.declared.end.End.{End}
@@ -26,4 +27,4 @@ pub record Pipes (status : ℕ) (time : Option ℕ) (turns : ℕ) (left out left
   pub ended : End
   pub known : Known
   pub said : status ≡ status_of ended
-  pub served : Serves ended (setting_of side.Both time true turns) (state new_office left out) (state known left' out')
+  pub served : Serves ended (setting_of (client_of side.Both None) time true turns) (state new_office left out) (state known left' out')

@@ -72,7 +72,7 @@ fn pipe<L: Link, C: Clock>(alloc: Global, console: &mut L, clock: &C, turns: u32
         return 1;
     };
     let mut office = Solo::new(desk);
-    status_of(serve_conn(alloc, &mut office, console, clock, Side::Both, turns))
+    status_of(serve_conn(alloc, &mut office, console, clock, Side::Both, None, turns))
 }
 
 /// A new book in memory.

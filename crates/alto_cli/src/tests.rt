@@ -1,5 +1,6 @@
 mod imports;
 mod maps;
+mod queries;
 
 use crate::run::run;
 use alto_answers::{Place, Query, Routes, Side};
@@ -128,6 +129,12 @@ maps/metro | none | none
 /filter/net/metro | filter | none
 /filter/net/ | none | none
 /filter/cost/metro | costs | none
+/filter/prop/metro | properties | none
+/endpointcost/metro | endpoints | none
+/endpointcost/ | none | none
+/pathvector/metro | paths | none
+/directory | directory | none
+/directory/ | none | none
 /lookup/metro/ipv4:192.0.2.1 | lookup | none
 /lookup/metro/ | none | none
 /edits/i1 | none | edits
@@ -187,6 +194,25 @@ impl Talk {
         let (status, rest) = parted(rest);
         let (kind, rest) = parted(rest);
         let told = reply(alloc, status, kind, rest.trim())?;
+        self.output.push_str(told.as_str())
+    }
+
+    /// Adds the request of a line that ends with it, and a reply of this media type and body.
+    fn add_reply(
+        &mut self,
+        alloc: Global,
+        line: &str,
+        media_type: &str,
+        body: &str,
+    ) -> Result<(), AllocError> {
+        let (start, rest) = parted(line);
+        let (fields, asked) = parted(rest);
+        let asked = request(alloc, start, fields, asked.trim())?;
+        self.input.push_str(asked.as_str())?;
+        let length = body.len();
+        let told = format!(in alloc;
+            "HTTP/1.1 200 OK\r\nContent-Type: {media_type}\r\nContent-Length: {length}\r\n\r\n{body}"
+        )?;
         self.output.push_str(told.as_str())
     }
 
@@ -284,6 +310,10 @@ fn word(place: Option<Place>) -> &'static str {
         Some(Place::Lookup) => "lookup",
         Some(Place::Query(Query::NetworkMap)) => "filter",
         Some(Place::Query(Query::CostMap)) => "costs",
+        Some(Place::Query(Query::EndpointCosts)) => "endpoints",
+        Some(Place::Query(Query::PropertyMap)) => "properties",
+        Some(Place::Query(Query::PathVector)) => "paths",
+        Some(Place::Directory) => "directory",
         Some(Place::Tips) => "tips",
         Some(Place::Edge) => "edge",
         None => "none",

@@ -27,7 +27,7 @@ use Rattle.alto_answers.specs.Target.{path_of, segment}
 use Rattle.alto_answers.specs.Accept.{patch_form}
 use Rattle.alto_answers.specs.declared.outcome.Answer.{Answer}
 use Rattle.alto_answers.specs.declared.outcome.Answer.TheVariants as answer
-use Rattle.alto_answers.specs.declared.route.Side.{Side}
+use Rattle.alto_answers.specs.declared.client.Client.{Client}
 use Rattle.alto_serve.specs.declared.end.End.{End}
 use Rattle.alto_serve.specs.declared.end.End.TheVariants as end
 use Rattle.alto_serve.specs.Connections.{Comes, IsServed, IsTurn, Serves, State, events_of, state, trace_of}
@@ -66,10 +66,10 @@ named-by_id rows text of good is id =
     )))
 
 -- what a request for an edge is answered
-answer-asked : (look : Book) (side : Side) (request : RequestData) (of : Resource) (edge : EdgeAsked) (met : Answer) → IsLegal look → AsksEdge side request of edge
-    → AnswersTo request look side met → met ≡ edge_for request.verb look of edge
+answer-asked : (look : Book) (client : Client) (request : RequestData) (of : Resource) (edge : EdgeAsked) (met : Answer) → IsLegal look → AsksEdge client request of edge
+    → AnswersTo request look client met → met ≡ edge_for request.verb look of edge
 unfolding AnswersTo
-answer-asked look side request of edge met legal a is = (rw a.routed at is) ∙ by request.verb
+answer-asked look client request of edge met legal a is = (rw a.routed at is) ∙ by request.verb
   where
     if_declared : (b : Bool) → named_edge look (if b then Some of else None) (patch_form request.accept) (segment (path_of request.target) 4) (segment (path_of request.target) 5)
         ≡ edge_if b look of edge
@@ -106,11 +106,11 @@ answer_for verb.Get look of edge = by (is_declared (rows_of look) of) refl
 answer_for verb.Post look of edge = λ ok. absurd (omega (arith, ok))
 answer_for verb.Other look of edge = λ ok. absurd (omega (arith, ok))
 
-edge_answer : (look : Book) (side : Side) (request : RequestData) (of : Resource) (edge : EdgeAsked) (met : Answer) → IsLegal look → AsksEdge side request of edge
-    → AnswersTo request look side met → IsEdgeAnswer look of edge met
-edge_answer look side request of edge met legal a is =
+edge_answer : (look : Book) (client : Client) (request : RequestData) (of : Resource) (edge : EdgeAsked) (met : Answer) → IsLegal look → AsksEdge client request of edge
+    → AnswersTo request look client met → IsEdgeAnswer look of edge met
+edge_answer look client request of edge met legal a is =
     let P : Answer → Type 0 = λ met. IsEdgeAnswer look of edge met in
-    subst P (sym (answer-asked look side request of edge met legal a is)) (answer_for request.verb look of edge)
+    subst P (sym (answer-asked look client request of edge met legal a is)) (answer_for request.verb look of edge)
 
 -- ---- a turn
 
@@ -129,61 +129,61 @@ IsAt (submits import) seen = ⊥
 IsAt (has_answer moment decided) seen = ⊥
 
 -- a reply to an edge, and whatever happens then
-replied_had : (alone : Bool) (side : Side) (request : RequestData) (known : Known) (stage : Stage) (events : List Event) (told : ReplyData)
-    → IsAt stage known.seen → IsReplied side request stage told → IsHistory alone known events
-    → (of : Resource) (edge : EdgeAsked) → AsksEdge side request of edge → told.status ≡ 200
+replied_had : (alone : Bool) (client : Client) (request : RequestData) (known : Known) (stage : Stage) (events : List Event) (told : ReplyData)
+    → IsAt stage known.seen → IsReplied client request stage told → IsHistory alone known events
+    → (of : Resource) (edge : EdgeAsked) → AsksEdge client request of edge → told.status ≡ 200
     → WasHad (fold (known_after alone) known events).seen of edge told
-replied_had alone side request known (looks_next left) events told at replied may of edge a ok = absurd replied
-replied_had alone side request known (submits import) events told at replied may of edge a ok = absurd at
-replied_had alone side request known (has_answer moment decided) events told at replied may of edge a ok = absurd at
-replied_had alone side request known (sees left book) events told (same, legal) (inr (held, from, to, answers, none, is)) may of edge a ok =
+replied_had alone client request known (looks_next left) events told at replied may of edge a ok = absurd replied
+replied_had alone client request known (submits import) events told at replied may of edge a ok = absurd at
+replied_had alone client request known (has_answer moment decided) events told at replied may of edge a ok = absurd at
+replied_had alone client request known (sees left book) events told (same, legal) (inr (held, from, to, answers, none, is)) may of edge a ok =
     absurd (omega (arith, sym (ap (λ (r : ReplyData). r.status) is) ∙ ok))
-replied_had alone side request known (sees left book) events told (same, legal) (inl answers) may of edge a ok =
-    let A : Book → Type 0 = λ book. AnswersTo request book side (answer.Reply told) in
+replied_had alone client request known (sees left book) events told (same, legal) (inl answers) may of edge a ok =
+    let A : Book → Type 0 = λ book. AnswersTo request book client (answer.Reply told) in
     record {
       legal = history_legal alone known events may legal;
       look = known.seen;
       extends = history_extends alone known events may;
-      had = edge_answer known.seen side request of edge (answer.Reply told) legal a (subst A same answers) ok;
+      had = edge_answer known.seen client request of edge (answer.Reply told) legal a (subst A same answers) ok;
     }
 
-reaches_had : (alone : Bool) (side : Side) (request : RequestData) (known : Known) (stage last : Stage) (events rest : List Event) (told : ReplyData)
-    → IsAt stage known.seen → Reaches side request stage events last → IsReplied side request last told → IsHistory alone known (events ++ rest)
-    → (of : Resource) (edge : EdgeAsked) → AsksEdge side request of edge → told.status ≡ 200
+reaches_had : (alone : Bool) (client : Client) (request : RequestData) (known : Known) (stage last : Stage) (events rest : List Event) (told : ReplyData)
+    → IsAt stage known.seen → Reaches client request stage events last → IsReplied client request last told → IsHistory alone known (events ++ rest)
+    → (of : Resource) (edge : EdgeAsked) → AsksEdge client request of edge → told.status ≡ 200
     → WasHad (fold (known_after alone) known (events ++ rest)).seen of edge told
-reaches_had alone side request known stage last [] rest told at reached replied may of edge a ok =
-    let R : Stage → Type 0 = λ stage. IsReplied side request stage told in
-    replied_had alone side request known stage rest told at (subst R (sym reached) replied) may of edge a ok
-reaches_had alone side request known (looks_next left) last (looked book ∷ events) rest told at (next, goes, reached) replied may of edge a ok =
-    let R : Stage → Type 0 = λ stage. Reaches side request stage events last in
-    reaches_had alone side request (known_after alone known (looked book)) (sees left book) last events rest told
+reaches_had alone client request known stage last [] rest told at reached replied may of edge a ok =
+    let R : Stage → Type 0 = λ stage. IsReplied client request stage told in
+    replied_had alone client request known stage rest told at (subst R (sym reached) replied) may of edge a ok
+reaches_had alone client request known (looks_next left) last (looked book ∷ events) rest told at (next, goes, reached) replied may of edge a ok =
+    let R : Stage → Type 0 = λ stage. Reaches client request stage events last in
+    reaches_had alone client request (known_after alone known (looked book)) (sees left book) last events rest told
     (refl, may.0.legal) (subst R goes reached) replied may.1 of edge a ok
-reaches_had alone side request known (sees left book) last (waited n ∷ events) rest told at (next, (fewer, held, from, to, one, answers, number, is), reached) replied may of edge a ok =
-    let R : Stage → Type 0 = λ stage. Reaches side request stage events last in
-    reaches_had alone side request (known_after alone known (waited n)) (looks_next fewer) last events rest told
+reaches_had alone client request known (sees left book) last (waited n ∷ events) rest told at (next, (fewer, held, from, to, one, answers, number, is), reached) replied may of edge a ok =
+    let R : Stage → Type 0 = λ stage. Reaches client request stage events last in
+    reaches_had alone client request (known_after alone known (waited n)) (looks_next fewer) last events rest told
     tt (subst R is reached) replied may.1 of edge a ok
-reaches_had alone side request known (sees left book) last (entered look ∷ events) rest told at (next, (import, answers, is), reached) replied may of edge a ok =
-    absurd (edge_answer book side request of edge (answer.Edit import) (subst IsLegal (sym at.0) at.1) a answers)
-reaches_had alone side request known (submits import) last (event ∷ events) rest told at reached replied may of edge a ok = absurd at
-reaches_had alone side request known (has_answer moment decided) last (event ∷ events) rest told at reached replied may of edge a ok = absurd at
-reaches_had alone side request known (looks_next left) last (entered book ∷ events) rest told at (next, goes, reached) replied may of edge a ok = absurd goes
-reaches_had alone side request known (looks_next left) last (submitted import moment faults decided book ∷ events) rest told at (next, goes, reached) replied may of edge a ok = absurd goes
-reaches_had alone side request known (looks_next left) last (waited n ∷ events) rest told at (next, goes, reached) replied may of edge a ok = absurd goes
-reaches_had alone side request known (looks_next left) last (wrote bytes ∷ events) rest told at (next, goes, reached) replied may of edge a ok = absurd goes
-reaches_had alone side request known (sees left look) last (looked book ∷ events) rest told at (next, goes, reached) replied may of edge a ok = absurd goes
-reaches_had alone side request known (sees left look) last (submitted import moment faults decided book ∷ events) rest told at (next, goes, reached) replied may of edge a ok = absurd goes
-reaches_had alone side request known (sees left look) last (wrote bytes ∷ events) rest told at (next, goes, reached) replied may of edge a ok = absurd goes
+reaches_had alone client request known (sees left book) last (entered look ∷ events) rest told at (next, (import, answers, is), reached) replied may of edge a ok =
+    absurd (edge_answer book client request of edge (answer.Edit import) (subst IsLegal (sym at.0) at.1) a answers)
+reaches_had alone client request known (submits import) last (event ∷ events) rest told at reached replied may of edge a ok = absurd at
+reaches_had alone client request known (has_answer moment decided) last (event ∷ events) rest told at reached replied may of edge a ok = absurd at
+reaches_had alone client request known (looks_next left) last (entered book ∷ events) rest told at (next, goes, reached) replied may of edge a ok = absurd goes
+reaches_had alone client request known (looks_next left) last (submitted import moment faults decided book ∷ events) rest told at (next, goes, reached) replied may of edge a ok = absurd goes
+reaches_had alone client request known (looks_next left) last (waited n ∷ events) rest told at (next, goes, reached) replied may of edge a ok = absurd goes
+reaches_had alone client request known (looks_next left) last (wrote bytes ∷ events) rest told at (next, goes, reached) replied may of edge a ok = absurd goes
+reaches_had alone client request known (sees left look) last (looked book ∷ events) rest told at (next, goes, reached) replied may of edge a ok = absurd goes
+reaches_had alone client request known (sees left look) last (submitted import moment faults decided book ∷ events) rest told at (next, goes, reached) replied may of edge a ok = absurd goes
+reaches_had alone client request known (sees left look) last (wrote bytes ∷ events) rest told at (next, goes, reached) replied may of edge a ok = absurd goes
 
 -- ---- all turns
 
 -- the edge that an exchange asked for, if it was answered 200, was had
-abbrev Had : Side → Exchange → Book → Type 0
-Had side e book = (of : Resource) (edge : EdgeAsked) → AsksEdge side e.request of edge → e.reply.status ≡ 200 → WasHad book of edge e.reply
+abbrev Had : Client → Exchange → Book → Type 0
+Had client e book = (of : Resource) (edge : EdgeAsked) → AsksEdge client e.request of edge → e.reply.status ≡ 200 → WasHad book of edge e.reply
 
 all_had : (alone : Bool) (setting : Setting) (known : Known) (exchanges : List Exchange) (tail : List Event) → All (IsTurn setting) exchanges
     → IsHistory alone known (trace_of exchanges ++ tail)
     → (n : ℕ) (e : Exchange) → slice_get exchanges n ≡ Some e
-    → Had setting.side e (fold (known_after alone) known (trace_of exchanges ++ tail)).seen
+    → Had setting.client e (fold (known_after alone) known (trace_of exchanges ++ tail)).seen
 all_had alone setting known [] tail turns may n e there = cc
 all_had alone setting known (first ∷ exchanges) tail turns may zero e there =
     let same : first ≡ e = cc in
@@ -192,16 +192,16 @@ all_had alone setting known (first ∷ exchanges) tail turns may zero e there =
     let whole : (events_of first ++ trace_of exchanges) ++ tail ≡ first.events ++ more =
     append_assoc (events_of first) (trace_of exchanges) tail ∙ append_assoc first.events _ (trace_of exchanges ++ tail) in
     let H : List Event → Type 0 = λ xs. IsHistory alone known xs in
-    let W : List Event → Type 0 = λ xs. Had setting.side first (fold (known_after alone) known xs).seen in
-    let Q : Exchange → Type 0 = λ x. Had setting.side x (fold (known_after alone) known (trace_of (first ∷ exchanges) ++ tail)).seen in
+    let W : List Event → Type 0 = λ xs. Had setting.client first (fold (known_after alone) known xs).seen in
+    let Q : Exchange → Type 0 = λ x. Had setting.client x (fold (known_after alone) known (trace_of (first ∷ exchanges) ++ tail)).seen in
     subst Q same
     (subst W (sym whole)
-    (reaches_had alone setting.side first.request known (looks_next setting.turns) turn.0 first.events more first.reply tt turn.1.0 turn.2 (subst H whole may)))
+    (reaches_had alone setting.client first.request known (looks_next setting.turns) turn.0 first.events more first.reply tt turn.1.0 turn.2 (subst H whole may)))
 all_had alone setting known (first ∷ exchanges) tail turns may (suc n) e there =
     let whole = append_assoc (events_of first) (trace_of exchanges) tail in
     let H : List Event → Type 0 = λ xs. IsHistory alone known xs in
-    let W : List Event → Type 0 = λ xs. Had setting.side e (fold (known_after alone) known xs).seen in
-    let K : Known → Type 0 = λ known. Had setting.side e known.seen in
+    let W : List Event → Type 0 = λ xs. Had setting.client e (fold (known_after alone) known xs).seen in
+    let K : Known → Type 0 = λ known. Had setting.client e known.seen in
     subst W (sym whole)
     (subst K (sym (fold-append (known_after alone) known (events_of first) (trace_of exchanges ++ tail)))
     (all_had alone setting (fold (known_after alone) known (events_of first)) exchanges tail (λ k d lt. turns (suc k) d (omega (arith, lt)))
@@ -210,9 +210,9 @@ all_had alone setting known (first ∷ exchanges) tail turns may (suc n) e there
 -- ---- walks
 
 -- each edge that was answered was had
-abbrev AreHad : Side → List Exchange → Book → Type 0
-AreHad side exchanges book =
-    (of : Resource) (edge : EdgeAsked) (reply : ReplyData) → IsAnswered side exchanges of edge reply → WasHad book of edge reply
+abbrev AreHad : Client → List Exchange → Book → Type 0
+AreHad client exchanges book =
+    (of : Resource) (edge : EdgeAsked) (reply : ReplyData) → IsAnswered client exchanges of edge reply → WasHad book of edge reply
 
 edge-answered : (book : Book) (of : Resource) (edge : EdgeAsked) (reply : ReplyData) → WasHad book of edge reply
     → walks.IsAnswered book of (edge_of book of edge)
@@ -226,27 +226,27 @@ reply-stays : (book : Book) (of : Resource) (edge : EdgeAsked) (reply : ReplyDat
 unfolding edge-answered
 reply-stays book of edge reply was = was.had.same ∙ ap (content_reply of) (sym (edge-answered book of edge reply was).content)
 
-walk_had : (side : Side) (exchanges : List Exchange) (book : Book) (of : Resource) (from : ℕ) (edges : List EdgeAsked) (at : ℕ)
-    → AreHad side exchanges book → IsWalk side exchanges of from edges at → walks.IsWalk book of from (map (edge_of book of) edges) at
-walk_had side exchanges book of from [] at had along = along
-walk_had side exchanges book of from (edge ∷ edges) at had (begins, answered, along) =
-    (begins, edge-answered book of edge answered.0 (had of edge answered.0 answered.1), walk_had side exchanges book of edge.j edges at had along)
+walk_had : (client : Client) (exchanges : List Exchange) (book : Book) (of : Resource) (from : ℕ) (edges : List EdgeAsked) (at : ℕ)
+    → AreHad client exchanges book → IsWalk client exchanges of from edges at → walks.IsWalk book of from (map (edge_of book of) edges) at
+walk_had client exchanges book of from [] at had along = along
+walk_had client exchanges book of from (edge ∷ edges) at had (begins, answered, along) =
+    (begins, edge-answered book of edge answered.0 (had of edge answered.0 answered.1), walk_had client exchanges book of edge.j edges at had along)
 
-walks_reach : (side : Side) (exchanges : List Exchange) (book : Book) → AreHad side exchanges book → WalksReachDocuments side exchanges book
-walks_reach side exchanges book had = record {
+walks_reach : (client : Client) (exchanges : List Exchange) (book : Book) → AreHad client exchanges book → WalksReachDocuments client exchanges book
+walks_reach client exchanges book had = record {
   replies = λ of edge reply answered. reply-stays book of edge reply (had of edge reply answered);
   bodies = λ of edge reply answered. ap (λ (r : ReplyData). r.body) (reply-stays book of edge reply (had of edge reply answered));
   walks = λ of from at first edges held along start.
       walks_lead_on book of from at (edge_of book of first) (map (edge_of book of) edges) held
       (had of first along.1.0 along.1.1).legal
-      (walk_had side exchanges book of from (first ∷ edges) at had along) start;
+      (walk_had client exchanges book of from (first ∷ edges) at had along) start;
 }
 
 -- ---- a connection
 
 served_had : (ended : End) (setting : Setting) (bytes : List ℕ) (left : Option (List ℕ)) (known : Known) (events : List Event)
     → IsHistory setting.alone known events → (served : IsServed ended setting bytes left events)
-    → AreHad setting.side served.exchanges (fold (known_after setting.alone) known events).seen
+    → AreHad setting.client served.exchanges (fold (known_after setting.alone) known events).seen
 served_had ended setting bytes left known events may served of edge reply answered =
     let H : List Event → Type 0 = λ xs. IsHistory setting.alone known xs in
     let W : List Event → Type 0 = λ xs. WasHad (fold (known_after setting.alone) known xs).seen of edge reply in
@@ -259,11 +259,11 @@ served_had ended setting bytes left known events may served of edge reply answer
 walks_now : (ended : End) (setting : Setting) (bytes : List ℕ) (before after : State)
     → Comes setting (IsServed ended setting bytes after.left) before after
     → Comes setting (λ events. (served : IsServed ended setting bytes after.left events)
-    × WalksReachDocuments setting.side served.exchanges after.known.seen) before after
+    × WalksReachDocuments setting.client served.exchanges after.known.seen) before after
 walks_now ended setting bytes before after (events, may, is, (out, served)) =
-    let B : Known → Type 0 = λ known. WalksReachDocuments setting.side served.exchanges known.seen in
+    let B : Known → Type 0 = λ known. WalksReachDocuments setting.client served.exchanges known.seen in
     let had = served_had ended setting bytes after.left before.known events may served in
-    (events, may, is, (out, (served, subst B (sym is) (walks_reach setting.side served.exchanges _ had))))
+    (events, may, is, (out, (served, subst B (sym is) (walks_reach setting.client served.exchanges _ had))))
 
 -- walks along the edges of what was served
 pub served_walks : (ended : End) (setting : Setting) (before after : State)
@@ -272,7 +272,7 @@ served_walks ended setting before after served = by before.left served
   where
     by : (given : Option (List ℕ)) → IfSome given (λ bytes. Comes setting (IsServed ended setting bytes after.left) before after)
         → IfSome given (λ bytes. Comes setting (λ events. (served : IsServed ended setting bytes after.left events)
-        × WalksReachDocuments setting.side served.exchanges after.known.seen) before after)
+        × WalksReachDocuments setting.client served.exchanges after.known.seen) before after)
     by None h = tt
     by (Some bytes) h = walks_now ended setting bytes before after h
 

@@ -141,5 +141,5 @@ abbrev pub Serves : End → Setting → State → State → Type 0
 Serves ended setting before after =
     IfSome before.left (λ bytes. Comes setting
     (λ events. (served : IsServed ended setting bytes after.left events)
-    × WalksReachDocuments setting.side served.exchanges after.known.seen)
+    × WalksReachDocuments setting.client served.exchanges after.known.seen)
     before after)

@@ -11,7 +11,7 @@ use Rattle.alto_http.specs.declared.fault.HeadFault.TheVariants as head
 use Rattle.alto_answers.specs.Answers.{AnswersTo}
 use Rattle.alto_answers.specs.declared.outcome.Answer.{Answer}
 use Rattle.alto_answers.specs.declared.outcome.Answer.TheVariants as answer
-use Rattle.alto_answers.specs.declared.route.Side.{Side}
+use Rattle.alto_answers.specs.declared.client.Client.{Client}
 use Rattle.alto_replies.specs.Replies.{edit_reply, head_status, too_early}
 use Rattle.alto_replies.specs.Reply.{ReplyData, bytes_of, memory_reply}
 use Rattle.alto_serve.specs.declared.end.End.{End}
@@ -31,11 +31,11 @@ is_pending (answer.Edit import) = false
 
 -- a turn has looked at this book, where its request is answered so, and doesn't wait any more
 pub record HasSettled
-    (side : Side) (request : RequestData) (turns : ℕ) (book : Book) (met : Answer) (events : List Event)
+    (client : Client) (request : RequestData) (turns : ℕ) (book : Book) (met : Answer) (events : List Event)
     : Type 0 where
   pub left : ℕ
-  pub reached : Reaches side request (looks_next turns) events (sees left book)
-  pub answered : AnswersTo request book side met
+  pub reached : Reaches client request (looks_next turns) events (sees left book)
+  pub answered : AnswersTo request book client met
   pub last : (is_pending met ≡ false) ⊎ (left ≡ 0)
 
 -- a stage with looks and waits alone before it
@@ -46,9 +46,9 @@ IsEarly (submits import) = ⊥
 IsEarly (has_answer moment decided) = ⊥
 
 -- a turn has come to such a stage
-abbrev pub IsWaiting : Side → RequestData → ℕ → List Event → Type 0
-IsWaiting side request turns events =
-    (stage : Stage) × Reaches side request (looks_next turns) events stage × IsEarly stage
+abbrev pub IsWaiting : Client → RequestData → ℕ → List Event → Type 0
+IsWaiting client request turns events =
+    (stage : Stage) × Reaches client request (looks_next turns) events stage × IsEarly stage
 
 -- an answer comes to its reply by these events: a reply is that reply; the next edge comes too early; an import is
 -- answered, with a timestamp of the clock

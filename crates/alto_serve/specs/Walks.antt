@@ -11,7 +11,7 @@ use Rattle.alto_book.specs.Walks.{Content, content_data, document_at, edge_conte
 use Rattle.alto_http.specs.Request.{RequestData}
 use Rattle.alto_replies.specs.Reply.{ReplyData}
 use Rattle.alto_answers.specs.declared.route.Place.TheVariants as place
-use Rattle.alto_answers.specs.declared.route.Side.{Side}
+use Rattle.alto_answers.specs.declared.client.Client.{Client}
 use Rattle.alto_answers.specs.Accept.{patch_form}
 use Rattle.alto_answers.specs.Edges.{edge_number, edge_reply}
 use Rattle.alto_answers.specs.Routes.{place_of}
@@ -31,8 +31,8 @@ pub record EdgeAsked : Type 0 where
   pub form : PatchForm
 
 -- a request asks for this edge of a resource
-pub record AsksEdge (side : Side) (request : RequestData) (of : Resource) (edge : EdgeAsked) : Type 0 where
-  pub routed : place_of side (path_of request.target) ≡ Some place.Edge
+pub record AsksEdge (client : Client) (request : RequestData) (of : Resource) (edge : EdgeAsked) : Type 0 where
+  pub routed : place_of client.routes (path_of request.target) ≡ Some place.Edge
   pub resource : IsResource of
   pub id : resource_id of ≡ segment (path_of request.target) 2
   pub from : edge_number (segment (path_of request.target) 4) ≡ Some edge.i
@@ -40,12 +40,12 @@ pub record AsksEdge (side : Side) (request : RequestData) (of : Resource) (edge 
   pub accepts : patch_form request.accept ≡ edge.form
 
 -- in one of these exchanges an edge was asked for and answered 200, by this reply
-pub record IsAnswered (side : Side) (exchanges : List Exchange) (of : Resource) (edge : EdgeAsked) (reply : ReplyData)
+pub record IsAnswered (client : Client) (exchanges : List Exchange) (of : Resource) (edge : EdgeAsked) (reply : ReplyData)
     : Type 0 where
   pub place : ℕ
   pub exchange : Exchange
   pub there : slice_get exchanges place ≡ Some exchange
-  pub asked : AsksEdge side exchange.request of edge
+  pub asked : AsksEdge client exchange.request of edge
   pub replied : exchange.reply ≡ reply
   pub ok : reply.status ≡ 200
 
@@ -59,20 +59,20 @@ edge_of book of edge = record { i = edge.i; j = edge.j; form = edge.form; conten
 
 -- edges are a walk from one number to another: each was answered, in any of these exchanges, and begins where the one
 -- before ended
-abbrev pub IsWalk : Side → List Exchange → Resource → ℕ → List EdgeAsked → ℕ → Type 0
-IsWalk side exchanges of from [] at = from ≡ at
-IsWalk side exchanges of from (edge ∷ edges) at =
-    (edge.i ≡ from) × ((reply : ReplyData) × IsAnswered side exchanges of edge reply)
-    × IsWalk side exchanges of edge.j edges at
+abbrev pub IsWalk : Client → List Exchange → Resource → ℕ → List EdgeAsked → ℕ → Type 0
+IsWalk client exchanges of from [] at = from ≡ at
+IsWalk client exchanges of from (edge ∷ edges) at =
+    (edge.i ≡ from) × ((reply : ReplyData) × IsAnswered client exchanges of edge reply)
+    × IsWalk client exchanges of edge.j edges at
 
 -- each reply to an edge is this book's, its body the text of what the book has the edge hold; and whoever follows the
 -- edges of a walk, from 0 with nothing, or with the document at its first number, holds exactly the document at its
 -- last number: no patch fails
-pub record WalksReachDocuments (side : Side) (exchanges : List Exchange) (book : Book) : Type 0 where
-  pub replies : (of : Resource) (edge : EdgeAsked) (reply : ReplyData) → IsAnswered side exchanges of edge reply
+pub record WalksReachDocuments (client : Client) (exchanges : List Exchange) (book : Book) : Type 0 where
+  pub replies : (of : Resource) (edge : EdgeAsked) (reply : ReplyData) → IsAnswered client exchanges of edge reply
       → reply ≡ edge_reply book of edge.form edge.i edge.j
-  pub bodies : (of : Resource) (edge : EdgeAsked) (reply : ReplyData) → IsAnswered side exchanges of edge reply
+  pub bodies : (of : Resource) (edge : EdgeAsked) (reply : ReplyData) → IsAnswered client exchanges of edge reply
       → reply.body ≡ compact_text (content_data (content_in book of edge))
   pub walks : (of : Resource) (from at : ℕ) (first : EdgeAsked) (edges : List EdgeAsked) (held : Data)
-      → IsWalk side exchanges of from (first ∷ edges) at → (1 ≤ from → held ≡ document_at book of from)
+      → IsWalk client exchanges of from (first ∷ edges) at → (1 ≤ from → held ≡ document_at book of from)
       → followed held (map (edge_of book of) (first ∷ edges)) ≡ Ok (document_at book of at)

@@ -16,7 +16,7 @@ mod serve;
 mod solo;
 mod turns;
 
-pub use alto_answers::{Answer, Place, Routes, Side, answer, edge_number};
+pub use alto_answers::{Answer, Client, Place, Routes, Side, answer, edge_number};
 pub use alto_replies::{Reply, reply_bytes};
 pub use clock::{Clock, FixedClock};
 pub use end::End;

@@ -1,4 +1,5 @@
 ghost use Rattle.std.specs.Prelude.{◌≡◌, false, None, IfSome, List, ℕ};
+ghost use Rattle.alto_answers.specs.Answers.{client_of};
 ghost use Rattle.alto_http.specs.Link.{followed_by};
 ghost use Rattle.alto_http.specs.Splits.{Begins};
 ghost use Rattle.alto_serve.specs.Connections.{Comes, Serves, state};
@@ -12,7 +13,8 @@ use crate::end::End;
 use crate::office::{Looks, Office};
 use crate::refuse::{out_of_memory, refuse};
 use crate::turns::answered;
-use alto_answers::{Routes, Side};
+use alto_addr::Addr;
+use alto_answers::{Client, Routes, Side};
 use alto_http::{Intake, Link, Request, read_request, write_all};
 use std::alloc::Global;
 
@@ -20,7 +22,7 @@ use std::alloc::Global;
 const MOST_REQUESTS: u32 = 1_000_000;
 
 /// Serves a connection to its end: reads requests, answers each at the version that the office has then, and writes the
-/// replies. The next edge is waited for, `turns` times at most. How it ended tells what became of the requests that
+/// replies. The client's address is `peer`, where it is known. The next edge is waited for, `turns` times at most. How it ended tells what became of the requests that
 /// its bytes are, what was written, and how often the office was looked at and waited.
 pub fn serve_conn<F: Office, L: Link, C: Clock>(
     alloc: Global,
@@ -28,11 +30,12 @@ pub fn serve_conn<F: Office, L: Link, C: Clock>(
     link: &mut L,
     clock: &C,
     side: Side,
+    peer: Option<Addr>,
     turns: u32,
 ) -> End
     // Where the link tells its bytes, they are answered in turn, up to this end, and each walk along the edges that
     // were answered reaches the document.
-    ensures served { Serves result (setting_of side (C.tells clock.now) F.alone turns)
+    ensures served { Serves result (setting_of (client_of side peer) (C.tells clock.now) F.alone turns)
         (state (F.known office.old) (L.left link.old) (L.out link.old))
         (state (F.known office.new) (L.left link.new) (L.out link.new)) }
 
@@ -46,8 +49,9 @@ pub fn serve_conn<F: Office, L: Link, C: Clock>(
     let Ok(mut intake) = Intake::new(alloc) else {
         return End::Memory;
     };
+    let client = Client { routes, peer };
     for _count in 0..MOST_REQUESTS {
-        if let Some(end) = serve_next(alloc, &routes, office, &mut intake, link, clock, turns) {
+        if let Some(end) = serve_next(alloc, &client, office, &mut intake, link, clock, turns) {
             return end;
         }
     }
@@ -57,18 +61,18 @@ pub fn serve_conn<F: Office, L: Link, C: Clock>(
 /// Reads the next request and answers it. Some end is the connection's.
 fn serve_next<F: Office, L: Link, C: Clock>(
     alloc: Global,
-    routes: &Routes,
+    client: &Client,
     office: &mut F,
     intake: &mut Intake,
     link: &mut L,
     clock: &C,
     turns: u32,
 ) -> Option<End>
-    ensures on { result ≡ None → let setting = setting_of routes.now (C.tells clock.now) F.alone turns in
+    ensures on { result ≡ None → let setting = setting_of client.now (C.tells clock.now) F.alone turns in
         Becomes setting (GoesOn setting)
         (state (F.known office.old) (followed_by intake.old (L.left link.old)) (L.out link.old))
         (state (F.known office.new) (followed_by intake.new (L.left link.new)) (L.out link.new)) }
-    ensures ended { IfSome result (λ end. let setting = setting_of routes.now (C.tells clock.now) F.alone turns in
+    ensures ended { IfSome result (λ end. let setting = setting_of client.now (C.tells clock.now) F.alone turns in
         Becomes setting (Finishes end setting)
         (state (F.known office.old) (followed_by intake.old (L.left link.old)) (L.out link.old))
         (state (F.known office.new) (L.left link.new) (L.out link.new))) }
@@ -78,7 +82,7 @@ fn serve_next<F: Office, L: Link, C: Clock>(
     ensures book { IsGrown (F.known office.new).seen (F.known office.old).seen }
 {
     match read_request(alloc, intake, link) {
-        Ok(Some(request)) => respond(alloc, routes, office, link, clock, &request, turns),
+        Ok(Some(request)) => respond(alloc, client, office, link, clock, &request, turns),
         Ok(None) => Some(End::Closed),
         Err(fault) => Some(refuse(alloc, link, fault)),
     }
@@ -87,7 +91,7 @@ fn serve_next<F: Office, L: Link, C: Clock>(
 /// Answers a request. Some end is the connection's.
 fn respond<F: Office, L: Link, C: Clock>(
     alloc: Global,
-    routes: &Routes,
+    client: &Client,
     office: &mut F,
     link: &mut L,
     clock: &C,
@@ -95,11 +99,11 @@ fn respond<F: Office, L: Link, C: Clock>(
     turns: u32,
 ) -> Option<End>
     ensures stays { result ≡ None → request.now.close ≡ false }
-    ensures on { result ≡ None → let setting = setting_of routes.now (C.tells clock.now) F.alone turns in
+    ensures on { result ≡ None → let setting = setting_of client.now (C.tells clock.now) F.alone turns in
         Comes setting (HasReply setting request.now)
         (state (F.known office.old) (L.left link.old) (L.out link.old))
         (state (F.known office.new) (L.left link.new) (L.out link.new)) }
-    ensures ended { IfSome result (λ end. let setting = setting_of routes.now (C.tells clock.now) F.alone turns in
+    ensures ended { IfSome result (λ end. let setting = setting_of client.now (C.tells clock.now) F.alone turns in
         let after = state (F.known office.new) (L.left link.new) (L.out link.new) in
         (rest behind : List ℕ) → Begins rest request.now behind
         → Comes setting (Finishes end setting rest after)
@@ -110,7 +114,7 @@ fn respond<F: Office, L: Link, C: Clock>(
     ensures writes { L.failed_writes link.new ≡ writes_so_far result (L.failed_writes link.old) }
     ensures book { IsGrown (F.known office.new).seen (F.known office.old).seen }
 {
-    let Ok(bytes) = answered(alloc, routes, office, clock, request, turns) else {
+    let Ok(bytes) = answered(alloc, client, office, clock, request, turns) else {
         return Some(out_of_memory(link));
     };
     match write_all(link, &bytes) {

@@ -11,7 +11,7 @@ ghost use Rattle.alto_serve.specs.Turns.{IsCutOff, IsMoment, TakesTurn, setting_
 
 use crate::clock::Clock;
 use crate::office::{Looks, Office};
-use alto_answers::{Answer, Routes, answer};
+use alto_answers::{Answer, Client, answer};
 use alto_desk::{Command, EditFault, Receipt};
 use alto_http::Request;
 use alto_replies::{Reply, edit_reply, reply_bytes, too_early};
@@ -27,67 +27,67 @@ struct Look {
 /// The bytes of the reply to a request.
 pub(crate) fn answered<F: Office, C: Clock>(
     alloc: Global,
-    routes: &Routes,
+    client: &Client,
     office: &mut F,
     clock: &C,
     request: &Request,
     turns: u32,
 ) -> Result<Vec<u8>, AllocError>
     ensures ok { IfOk result (λ bytes. Emits F.alone
-        (RepliesWith (setting_of routes.now (C.tells clock.now) F.alone turns) request.now bytes.items)
+        (RepliesWith (setting_of client.now (C.tells clock.now) F.alone turns) request.now bytes.items)
         (F.known office.old) (F.known office.new)) }
     ensures err { OnErr result (Emits F.alone
-        (IsCutOff (setting_of routes.now (C.tells clock.now) F.alone turns) request.now)
+        (IsCutOff (setting_of client.now (C.tells clock.now) F.alone turns) request.now)
         (F.known office.old) (F.known office.new)) }
 {
-    let reply = take_turn(alloc, routes, office, clock, request, turns)?;
+    let reply = take_turn(alloc, client, office, clock, request, turns)?;
     reply_bytes(alloc, &reply, request.close)
 }
 
 /// The reply to a request, which may change the book.
 fn take_turn<F: Office, C: Clock>(
     alloc: Global,
-    routes: &Routes,
+    client: &Client,
     office: &mut F,
     clock: &C,
     request: &Request,
     turns: u32,
 ) -> Result<Reply, AllocError>
     ensures ok { IfOk result (λ reply. Emits F.alone
-        (λ events. TakesTurn (setting_of routes.now (C.tells clock.now) F.alone turns) request.now events reply)
+        (λ events. TakesTurn (setting_of client.now (C.tells clock.now) F.alone turns) request.now events reply)
         (F.known office.old) (F.known office.new)) }
     ensures bytes { IfOk result IsReply }
     ensures err { OnErr result (Emits F.alone
-        (IsCutOff (setting_of routes.now (C.tells clock.now) F.alone turns) request.now)
+        (IsCutOff (setting_of client.now (C.tells clock.now) F.alone turns) request.now)
         (F.known office.old) (F.known office.new)) }
 {
-    let answer = settled(alloc, routes, office, request, turns)?;
+    let answer = settled(alloc, client, office, request, turns)?;
     conclude(alloc, office, clock, answer)
 }
 
 /// What a request comes to in the end: the next edge is looked for again after each wait, `turns` times at most.
 fn settled<F: Office>(
     alloc: Global,
-    routes: &Routes,
+    client: &Client,
     office: &mut F,
     request: &Request,
     turns: u32,
 ) -> Result<Answer, AllocError>
     ensures ok { IfOk result (λ answer. Emits F.alone
-        (HasSettled routes.now request.now turns (F.known office.new).seen answer)
+        (HasSettled client.now request.now turns (F.known office.new).seen answer)
         (F.known office.old) (F.known office.new)) }
     ensures edits { IfOk result BringsEdits }
     ensures replies { IfOk result HasBytes }
-    ensures err { OnErr result (Emits F.alone (PrefixOf (IsWaiting routes.now request.now turns))
+    ensures err { OnErr result (Emits F.alone (PrefixOf (IsWaiting client.now request.now turns))
         (F.known office.old) (F.known office.new)) }
 {
-    let mut look = look_at(alloc, routes, office, request)?;
+    let mut look = look_at(alloc, client, office, request)?;
     for _turn in 0..turns {
         if !is_pending(&look.answer) {
             return Ok(look.answer);
         }
         office.wait(look.number);
-        look = look_at(alloc, routes, office, request)?;
+        look = look_at(alloc, client, office, request)?;
     }
     Ok(look.answer)
 }
@@ -102,11 +102,11 @@ fn is_pending(answer: &Answer) -> bool
 /// What a request comes to at the next look.
 fn look_at<F: Office>(
     alloc: Global,
-    routes: &Routes,
+    client: &Client,
     office: &mut F,
     request: &Request,
 ) -> Result<Look, AllocError>
-    ensures answer { IfOk result (λ look. AnswersTo request.now (F.known office.new).seen routes.now look.answer) }
+    ensures answer { IfOk result (λ look. AnswersTo request.now (F.known office.new).seen client.now look.answer) }
     ensures number { IfOk result (λ look. look.number ≡ number_of (F.known office.new).seen) }
     ensures edits { IfOk result (λ look. BringsEdits look.answer) }
     ensures replies { IfOk result (λ look. HasBytes look.answer) }
@@ -116,7 +116,7 @@ fn look_at<F: Office>(
         (F.known office.old) (F.known office.new)) }
 {
     let front = office.front(alloc)?;
-    let answer = answer(alloc, routes, request, &*front)?;
+    let answer = answer(alloc, client, request, &*front)?;
     Ok(Look {
         answer,
         number: front.n,

@@ -23,13 +23,13 @@ get target = record {
   body = [];
 }
 
--- reading a map comes to this
+-- reading a map from a console comes to this
 abbrev pub ReadsMap : List ℕ → Book → Answer → Type 0
-ReadsMap target book given = PlaceAnswers (Some place.Maps) (get target) book given
+ReadsMap target book given = PlaceAnswers (Some place.Maps) (get target) book None given
 
--- reading an edge comes to this
+-- reading an edge from a console comes to this
 abbrev pub ReadsEdge : List ℕ → Book → Answer → Type 0
-ReadsEdge target book given = PlaceAnswers (Some place.Edge) (get target) book given
+ReadsEdge target book given = PlaceAnswers (Some place.Edge) (get target) book None given
 
 -- the reply with this status, content type and body
 abbrev pub reply_data : ℕ → List ℕ → List ℕ → ReplyData

@@ -4,7 +4,7 @@ use std::alloc::{AllocError, Global};
 use std::test::Fail;
 
 /// Four imports: a network, two PIDs, their prefixes, and a metric with one cost.
-const SCRIPT: &str =
+pub(crate) const SCRIPT: &str =
     r#"POST /edits/i1 | Content-Type: text/csv~ | net-add,metro,,,,~ | 200 OK | json | {"moment":100,"n":1}
 POST /edits/i2 | Content-Type: text/csv~ | pid-add,metro,east,,,~pid-add,metro,west,,,~ | 200 OK | json | {"moment":100,"n":2}
 POST /edits/i3 | Content-Type: text/csv~ | prefix-put,metro,east,192.0.2.0/24,,~prefix-put,metro,west,0.0.0.0/0,,~ | 200 OK | json | {"moment":100,"n":3}

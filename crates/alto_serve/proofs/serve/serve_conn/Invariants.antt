@@ -1,4 +1,5 @@
 use Rattle.std.proofs.Common.{◌≡◌}
+use Rattle.alto_answers.specs.Answers.{client_of}
 use Rattle.alto_http.specs.Link.{followed_by}
 use Rattle.alto_serve.specs.Connections.{state}
 use Rattle.alto_serve.specs.Events.{IsGrown}
@@ -9,7 +10,7 @@ use Rattle.alto_serve.proofs.serve.serve_conn.Given as goal
 -- as many requests had their turns as the loop has gone round; no fault was counted; and the book has only grown
 abbrev pub invariant-loop-count : goal.invariant-loop-count
 invariant-loop-count g l =
-    let setting = setting_of l.fn.side (g.C.Clock.tells l.fn.clock) g.F.Looks.alone l.fn.turns in
+    let setting = setting_of (client_of l.fn.side l.fn.peer) (g.C.Clock.tells l.fn.clock) g.F.Looks.alone l.fn.turns in
     record {
       served : Becomes setting (λ bytes. HasServed setting bytes l._count)
           (state (g.F.Looks.known l.fn.office) (g.L.Link.left l.fn.link) (g.L.Link.out l.fn.link))

@@ -5,4 +5,4 @@ use Rattle.alto_serve.proofs.turns.answered.Goals as goal
 pub returns-clause-err : goal.returns-clause-err
 returns-clause-err g c =
     on_err_anyhow _
-    (whole_cut_off _ (setting_of c.args.routes.now (g.C.Clock.tells c.args.clock.now) g.F.Looks.alone c.args.turns) _ _ _ _ c.in_ok-reply.ensures.ok)
+    (whole_cut_off _ (setting_of c.args.client.now (g.C.Clock.tells c.args.clock.now) g.F.Looks.alone c.args.turns) _ _ _ _ c.in_ok-reply.ensures.ok)

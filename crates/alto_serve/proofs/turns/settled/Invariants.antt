@@ -9,9 +9,9 @@ use Rattle.alto_serve.proofs.turns.settled.Given as goal
 abbrev pub invariant-loop-turn : goal.invariant-loop-turn
 invariant-loop-turn g l = record {
   come : Emits g.F.Looks.alone
-      (λ events. Reaches l.fn.routes l.fn.request (looks_next l.fn.turns) events (sees (l.fn.turns - l._turn) (g.F.Looks.known l.office).seen))
+      (λ events. Reaches l.fn.client l.fn.request (looks_next l.fn.turns) events (sees (l.fn.turns - l._turn) (g.F.Looks.known l.office).seen))
       (g.F.Looks.known l.fn.office) (g.F.Looks.known l.office);
-  met : AnswersTo l.fn.request (g.F.Looks.known l.office).seen l.fn.routes l.look.answer;
+  met : AnswersTo l.fn.request (g.F.Looks.known l.office).seen l.fn.client l.look.answer;
   number : l.look.number ≡ number_of (g.F.Looks.known l.office).seen;
   edits : BringsEdits l.look.answer;
   replies : HasBytes l.look.answer;

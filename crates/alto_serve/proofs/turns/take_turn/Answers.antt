@@ -6,18 +6,18 @@ use Rattle.alto_serve.proofs.turns.take_turn.Goals as goal
 pub returns-in_err-answer-clause-err : goal.returns-in_err-answer-clause-err
 returns-in_err-answer-clause-err g c =
     on_err_anyhow _
-    (waiting_cut_off _ (setting_of c.args.routes.now (g.C.Clock.tells c.args.clock.now) g.F.Looks.alone c.args.turns) _ _ _ c.in_err-answer.ensures.err)
+    (waiting_cut_off _ (setting_of c.args.client.now (g.C.Clock.tells c.args.clock.now) g.F.Looks.alone c.args.turns) _ _ _ c.in_err-answer.ensures.err)
 
 pub returns-clause-ok : goal.returns-clause-ok
 returns-clause-ok g c =
     IfOk-weaker c.conclude.result _ _
     (λ reply made.
-    turn_ends _ (setting_of c.args.routes.now (g.C.Clock.tells c.args.clock.now) g.F.Looks.alone c.args.turns) _ _ _ reply _ _ _ c.in_ok-answer.ensures.ok made)
+    turn_ends _ (setting_of c.args.client.now (g.C.Clock.tells c.args.clock.now) g.F.Looks.alone c.args.turns) _ _ _ reply _ _ _ c.in_ok-answer.ensures.ok made)
     c.conclude.ensures.ok
 
 pub returns-clause-err : goal.returns-clause-err
 returns-clause-err g c =
     on_err_weaker c.conclude.result
     (λ lost.
-    turn_cut_off _ (setting_of c.args.routes.now (g.C.Clock.tells c.args.clock.now) g.F.Looks.alone c.args.turns) _ _ _ _ _ _ c.in_ok-answer.ensures.ok lost)
+    turn_cut_off _ (setting_of c.args.client.now (g.C.Clock.tells c.args.clock.now) g.F.Looks.alone c.args.turns) _ _ _ _ _ _ c.in_ok-answer.ensures.ok lost)
     c.conclude.ensures.err
