@@ -39,6 +39,10 @@ abbrev pub rebased : List (List ℕ) → ℤ → StoredData → StoredData
 rebased pieces upto stored =
     record { base = numbered 0 pieces; rows = filter (λ row. not (is_taken_in upto row)) stored.rows }
 
+-- what was held is held afterwards, as it was
+abbrev pub Stays : (StoredData → Type 0) → (StoredData → Type 0) → Type 0
+Stays before after = (kept : StoredData) → before kept → after kept
+
 -- a count that has risen by one: it stops at the last number of 64 bits
 abbrev pub one_more : ℕ → ℕ
 one_more n = min (n + 1) (2 ^ 64 - 1)

@@ -1,8 +1,8 @@
 //! Where a book's records are kept: a base in pieces, and rows behind it, each with its number.
 //!
 //! `Keeper` is what a desk asks of a place for records, and `Vault` opens keepers by their paths. Neither says what the
-//! bytes mean. Of records in memory (`MemKeeper`, `MemVault`) contracts see all that is kept; of a file they see what the
-//! file can promise.
+//! bytes mean. What is held is told of records in memory (`MemKeeper`, `MemVault`), and of others while nothing has put
+//! it in doubt.
 #![tactic(auto)]
 
 mod fault;

@@ -1,5 +1,5 @@
 ghost use Rattle.std.specs.Prelude.{◌≡◌, ◌≢◌, ◌≤ℤ◌, Err, pos, map, [], IfOk, OnOk, OnErr, vec_items};
-ghost use Rattle.alto_keeper.specs.Stored.{IsNext, numbered, with_row, rebased, faults_after};
+ghost use Rattle.alto_keeper.specs.Stored.{numbered, with_row, rebased, faults_after};
 ghost use Rattle.alto_keeper.specs.MemKeeper.{fails, has_failed, called};
 
 use crate::fault::KeepFault;
@@ -74,9 +74,11 @@ impl MemKeeper {
 }
 
 impl Keeper for MemKeeper {
-    ghost use Rattle.std.specs.Prelude.{Some};
+    ghost use Rattle.std.specs.Prelude.{⊤};
 
-    ghost stored = { λ keeper. Some keeper.stored };
+    ghost holds = { λ keeper kept. keeper.stored ≡ kept };
+
+    ghost is_clean = { λ _. ⊤ };
 
     ghost faults = { λ keeper. keeper.faults };
 
@@ -93,8 +95,6 @@ impl Keeper for MemKeeper {
     }
 
     fn append(&mut self, alloc: Global, n: i64, bytes: &[u8]) -> Result<(), KeepFault>
-        requires next { IsNext self.old.stored n }
-
         ensures fails { has_failed result ≡ fails self.old }
         ensures called { self.new ≡ called result self.new.stored self.old }
 

@@ -84,11 +84,13 @@ impl MemVault {
 }
 
 impl Vault for MemVault {
-    ghost use Rattle.std.specs.Prelude.{Some};
+    ghost use Rattle.std.specs.Prelude.{⊤};
 
     type Keeper = MemKeeper;
 
-    ghost held = { λ vault path. Some (held_at vault path) };
+    ghost holds = { λ vault path kept. held_at vault path ≡ kept };
+
+    ghost is_clean = { λ _. ⊤ };
 
     ghost knows = { λ vault path. knows vault path };
 

@@ -1,5 +1,5 @@
-ghost use Rattle.std.specs.Prelude.{◌≡◌, ◌≢◌, ℕ, Bool, List, Option, Some, IsTrue, IfOk, IfSome, OnOk};
-ghost use Rattle.alto_keeper.specs.Stored.{StoredData, faults_after, faults_closed};
+ghost use Rattle.std.specs.Prelude.{◌≡◌, ◌≢◌, ℕ, Bool, List, IsTrue, IfOk, OnOk};
+ghost use Rattle.alto_keeper.specs.Stored.{StoredData, Stays, faults_after, faults_closed};
 
 use crate::fault::KeepFault;
 use crate::keeper::Keeper;
@@ -11,8 +11,11 @@ pub trait Vault {
     /// The records of one path, while they are open.
     type Keeper: Keeper + Drop;
 
-    /// All that is held at a path, where that is known.
-    ghost held: { Self → List ℕ → Option StoredData };
+    /// These are all the records that are held at a path.
+    ghost holds: { Self → List ℕ → StoredData → Type 0 };
+
+    /// Nothing has put in doubt what is held. What did so lasts.
+    ghost is_clean: { Self → Type 0 };
 
     /// The paths that were opened.
     ghost knows: { Self → List ℕ → Bool };
@@ -23,9 +26,11 @@ pub trait Vault {
     /// Opens the records at a path. A path that holds none yet is opened without any.
     fn open(&mut self, alloc: Global, path: &str) -> Result<Self::Keeper, KeepFault>
         ensures fresh { IfOk result (λ keeper. Self.Keeper.faults keeper ≡ 0) }
-        ensures told { IfOk result (λ keeper. IfSome (held self.old path.now)
-            (λ all. Self.Keeper.stored keeper ≡ Some all)) }
-        ensures stays { (other : List ℕ) → held self.new other ≡ held self.old other }
+
+        ensures clean { is_clean self.new → is_clean self.old }
+        ensures held { IfOk result (λ keeper. is_clean self.new
+            → Stays (holds self.old path.now) (Self.Keeper.holds keeper)) }
+        ensures stays { is_clean self.new → (other : List ℕ) → Stays (holds self.old other) (holds self.new other) }
 
         ensures known { OnOk result (IsTrue (knows self.new path.now)) }
         ensures remembered { (other : List ℕ) → IsTrue (knows self.old other) → IsTrue (knows self.new other) }
@@ -36,8 +41,12 @@ pub trait Vault {
     fn close(&mut self, path: &str, keeper: Self::Keeper)
         requires known { IsTrue (knows self.old path.now) }
 
-        ensures kept { IfSome (held self.old path.now) (λ _. held self.new path.now ≡ Self.Keeper.stored keeper) }
-        ensures others { (other : List ℕ) → other ≢ path.now → held self.new other ≡ held self.old other }
+        ensures clean { is_clean self.new → is_clean self.old × Self.Keeper.is_clean keeper }
+        ensures kept { is_clean self.new → (before : StoredData) → holds self.old path.now before
+            → Stays (Self.Keeper.holds keeper) (holds self.new path.now) }
+        ensures others { is_clean self.new → (other : List ℕ) → other ≢ path.now
+            → Stays (holds self.old other) (holds self.new other) }
+
         ensures remembered { (other : List ℕ) → IsTrue (knows self.old other) → IsTrue (knows self.new other) }
 
         ensures counted { faults self.new ≡ faults_closed (Self.Keeper.faults keeper) (faults self.old) };

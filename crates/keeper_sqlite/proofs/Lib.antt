@@ -1,0 +1,4 @@
+pub mod TextLemmas
+pub mod TableLemmas
+pub mod StatementLemmas
+pub mod AddingLemmas

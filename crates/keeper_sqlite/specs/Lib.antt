@@ -1,0 +1,4 @@
+pub mod Texts
+pub mod Store
+pub mod Reading
+pub mod SqlKeeper
