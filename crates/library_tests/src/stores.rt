@@ -16,13 +16,13 @@ fn pid(rt: &HostRuntime, number: u64) -> Result<PidName, Fail> {
     Ok(PidName::read(rt.alloc(), name.as_bytes())?)
 }
 
-/// The key of one of 3,600 costs.
+/// The key of one of 22,500 costs.
 fn cost_key(rt: &HostRuntime, number: u64) -> Result<Key, Fail> {
     Ok(Key::Cost(
         NetName::read(rt.alloc(), b"metro")?,
         Metric::read(rt.alloc(), b"hops")?,
-        pid(rt, number / 60 % 60)?,
-        pid(rt, number % 60)?,
+        pid(rt, number / 150 % 150)?,
+        pid(rt, number % 150)?,
     ))
 }
 
@@ -72,9 +72,14 @@ fn costs_from<R: RowStore>(rt: &HostRuntime, rows: &R, number: u64) -> Result<us
 fn shared_rows_are_the_plain_rows(rt: HostRuntime) -> Result<(), Fail> {
     let mut plain = PlainRows::empty(rt.alloc())?;
     let mut shared = Chunks::empty(rt.alloc())?;
-    for round in 0..120u64 {
-        let deletions = if round < 60 { 1 } else { 7 };
-        let changes = writes(&rt, round, 1 + round % 7 * 40, deletions)?;
+    for round in 0..80u64 {
+        let deletions = if round < 40 { 1 } else { 7 };
+        let count = if round % 40 < 3 {
+            20_000
+        } else {
+            1 + round % 7 * 40
+        };
+        let changes = writes(&rt, round, count, deletions)?;
         plain = plain.with(rt.alloc(), &changes)?;
         shared = shared.with(rt.alloc(), &changes)?;
         assert!(rt; are_alike(&plain, &shared), "the rows after round {round}");

@@ -1,5 +1,5 @@
 -- Rows in two parts, before a key and from it on: changes of either part leave the other as it is.
-use Rattle.std.proofs.Common.{◌≡◌, ℕ, zero, suc, ◌+◌, ◌-◌, ◌≤◌, refl, ap, sym, ◌∙◌, arith, append_assoc, append-nil, length-append, take, drop}
+use Rattle.std.proofs.Common.{◌≡◌, ℕ, ◌+◌, ◌-◌, ◌≤◌, refl, ap, sym, ◌∙◌, arith, append_assoc, append-nil, length-append, take, drop}
 use Rattle.std.proofs.Math.Seq.{take-append_seam}
 use Rattle.std.specs.Prelude.{Bool, true, false, not, List, [], ◌∷◌, ◌++◌, filter, length, Option, Some, None}
 use Rattle.std.specs.List.{AllByRecursion}
@@ -16,10 +16,9 @@ use Rattle.alto_rows.proofs.OrderLemmas.{key_cmp_exact, key_cmp_itself, key_cmp_
 use Rattle.alto_rows.proofs.PlaceLemmas.{delete-past, put-past, rows_before-past, with_value-before}
 use Rattle.alto_rows.proofs.RowsLemmas.{AreBefore, ArePast, before_middle, greater_back, less_back, past_first, past_lesser, sorted_rest, sorted_right}
 use Rattle.alto_rows.proofs.RunLemmas.{AreFrom, rows_from-at, rows_from-past}
-use Rattle.row_chunks.specs.declared.slot.Slot.{Slot}
-use Rattle.row_chunks.specs.Chunks.{AllBegin, joined, rows_of}
+use Rattle.row_chunks.specs.Blocks.{AllBegin, Placed, joined}
 use Rattle.row_chunks.specs.Split.{later_changes, own_changes}
-use Rattle.row_chunks.proofs.ChunkLemmas.{begin_drop}
+use Rattle.row_chunks.proofs.BlockLemmas.{begin_drop, sorted_drop}
 
 -- ---- the rows before a key
 
@@ -149,39 +148,32 @@ changed-apart low (change ∷ changes) front back b f = by (changed-apart low ch
         (ap (λ (rows : Rows). changed rows changes) (with_value-before change.0 change.1 front back (before_from low change.0 e front b))
         ∙ rest front (with_value back change.0 change.1) b (with_value-all (λ key. is_gt (key_cmp low key) ≡ false) back change.0 change.1 f e))
 
--- ---- chunks
+-- ---- blocks
 
 -- rows after a key are from it on
 past_are_from : (low : Key) (rows : Rows) → ArePast low rows → AreFrom low rows
 past_are_from low [] h = tt
 past_are_from low (row ∷ rows) h = (ap is_gt h.0, past_are_from low rows h.1)
 
--- a chunk has its own changes, and the chunks behind it the others
-pub changed_chunk : (slot : Slot) (slots : List Slot) (changes : Changes) → AllBegin slots → AreSorted (rows_of slot ++ joined slots)
-    → changed (rows_of slot ++ joined slots) changes ≡ changed (rows_of slot) (own_changes slots changes) ++ changed (joined slots) (later_changes slots changes)
-changed_chunk slot [] changes b s = rw (append-nil (rows_of slot)) (sym (append-nil (changed (rows_of slot) changes)))
-changed_chunk slot (next ∷ slots) changes b s =
+-- a block has its own changes, and the blocks behind it the others
+pub changed_block : (slot : Placed) (slots : List Placed) (changes : Changes) → AllBegin slots → AreSorted (slot.rows ++ joined slots)
+    → changed (slot.rows ++ joined slots) changes ≡ changed slot.rows (own_changes slots changes) ++ changed (joined slots) (later_changes slots changes)
+changed_block slot [] changes b s = rw (append-nil slot.rows) (sym (append-nil (changed slot.rows changes)))
+changed_block slot (next ∷ slots) changes b s =
     let more = b.0.rest ++ joined slots in
-    let begun : AreSorted (rows_of slot ++ (next.first, b.0.value) ∷ more) = rw b.0.whole at s in
-    let past : ArePast next.first more = past_first (next.first, b.0.value) more (sorted_right (rows_of slot) ((next.first, b.0.value) ∷ more) begun) in
+    let begun : AreSorted (slot.rows ++ (next.first, b.0.value) ∷ more) = rw b.0.whole at s in
+    let past : ArePast next.first more = past_first (next.first, b.0.value) more (sorted_right slot.rows ((next.first, b.0.value) ∷ more) begun) in
     let from : AreFrom next.first ((next.first, b.0.value) ∷ more) = (ap is_gt (key_cmp_itself next.first), past_are_from next.first more past) in
     rw b.0.whole
-    (changed-apart next.first changes (rows_of slot) ((next.first, b.0.value) ∷ more) (before_middle (rows_of slot) (next.first, b.0.value) more begun) from)
+    (changed-apart next.first changes slot.rows ((next.first, b.0.value) ∷ more) (before_middle slot.rows (next.first, b.0.value) more begun) from)
 
--- chunks from a place on are sorted
-pub sorted_drop : (slots : List Slot) (at : ℕ) → AreSorted (joined slots) → AreSorted (joined (drop at slots))
-sorted_drop [] zero s = s
-sorted_drop [] (suc at) s = s
-sorted_drop (slot ∷ slots) zero s = s
-sorted_drop (slot ∷ slots) (suc at) s = sorted_drop slots at (sorted_right (rows_of slot) (joined slots) s)
-
--- the step of a pass over chunks
-pub changed_more : (done whole : Rows) (slots : List Slot) (at : ℕ) (slot : Slot) (rest : Changes) → AllBegin slots → AreSorted (joined slots)
+-- the step of a pass over blocks
+pub changed_more : (done whole : Rows) (slots : List Placed) (at : ℕ) (slot : Placed) (rest : Changes) → AllBegin slots → AreSorted (joined slots)
     → drop at slots ≡ slot ∷ drop (at + 1) slots → done ++ changed (joined (drop at slots)) rest ≡ whole
-    → (done ++ changed (rows_of slot) (own_changes (drop (at + 1) slots) rest)) ++ changed (joined (drop (at + 1) slots)) (later_changes (drop (at + 1) slots) rest) ≡ whole
+    → (done ++ changed slot.rows (own_changes (drop (at + 1) slots) rest)) ++ changed (joined (drop (at + 1) slots)) (later_changes (drop (at + 1) slots) rest) ≡ whole
 changed_more done whole slots at slot rest b s step e =
-    let sorted : AreSorted (rows_of slot ++ joined (drop (at + 1) slots)) = rw step at (sorted_drop slots at s) in
-    let all : done ++ changed (rows_of slot ++ joined (drop (at + 1) slots)) rest ≡ whole = rw step at e in
-    append_assoc done (changed (rows_of slot) (own_changes (drop (at + 1) slots) rest)) (changed (joined (drop (at + 1) slots)) (later_changes (drop (at + 1) slots) rest))
-    ∙ ap (λ (more : Rows). done ++ more) (sym (changed_chunk slot (drop (at + 1) slots) rest (begin_drop slots (at + 1) b) sorted))
+    let sorted : AreSorted (slot.rows ++ joined (drop (at + 1) slots)) = rw step at (sorted_drop slots at s) in
+    let all : done ++ changed (slot.rows ++ joined (drop (at + 1) slots)) rest ≡ whole = rw step at e in
+    append_assoc done (changed slot.rows (own_changes (drop (at + 1) slots) rest)) (changed (joined (drop (at + 1) slots)) (later_changes (drop (at + 1) slots) rest))
+    ∙ ap (λ (more : Rows). done ++ more) (sym (changed_block slot (drop (at + 1) slots) rest (begin_drop slots (at + 1) b) sorted))
     ∙ all

@@ -1,6 +1,7 @@
 pub mod CutLemmas
-pub mod ChunkLemmas
+pub mod BlockLemmas
 pub mod LayLemmas
+pub mod PieceLemmas
 pub mod ReadLemmas
 pub mod SplitLemmas
 pub mod ApartLemmas

@@ -16,7 +16,7 @@ use Rattle.alto_rows.specs.declared.value.Value.{Value}
 use Rattle.alto_rows.specs.Changes.{Changes, AreOrdered}
 use Rattle.alto_rows.specs.Order.{key_cmp}
 use Rattle.row_chunks.specs.declared.cut.Cut.{Cut}
-use Rattle.row_chunks.specs.declared.slot.Slot.{Slot}
+use Rattle.row_chunks.specs.Blocks.{Placed}
 use Rattle.row_chunks.specs.Cut.{keeps}
 use Rattle.row_chunks.specs.Split.{changes_before, changes_behind, later_changes, own_changes}
 use Rattle.row_chunks.proofs.CutLemmas.{keeps_later, kept_at_point, passed_at_point}
@@ -99,13 +99,13 @@ keys_of-filter p (change ∷ changes) = by (keys_of-filter p changes) (p change.
 ordered_filter : (p : Key → Bool) (changes : Changes) → AreOrdered changes → AreOrdered (filter (λ change. p change.0) changes)
 ordered_filter p changes o = rw (keys_of-filter p changes) (IsStrictlySortedBy-filter key_cmp p (keys_of changes) o)
 
--- so are a chunk's own changes
-pub ordered_own : (slots : List Slot) (changes : Changes) → AreOrdered changes → AreOrdered (own_changes slots changes)
+-- so are a block's own changes
+pub ordered_own : (slots : List Placed) (changes : Changes) → AreOrdered changes → AreOrdered (own_changes slots changes)
 ordered_own [] changes o = o
 ordered_own (slot ∷ slots) changes o = ordered_filter (λ key. is_gt (key_cmp slot.first key)) changes o
 
--- and those of the chunks behind it
-pub ordered_later : (slots : List Slot) (changes : Changes) → AreOrdered changes → AreOrdered (later_changes slots changes)
+-- and those of the blocks behind it
+pub ordered_later : (slots : List Placed) (changes : Changes) → AreOrdered changes → AreOrdered (later_changes slots changes)
 unfolding IsStrictlySortedBy
 ordered_later [] changes o = tt
 ordered_later (slot ∷ slots) changes o = ordered_filter (λ key. not (is_gt (key_cmp slot.first key))) changes o
@@ -119,14 +119,14 @@ before_key : (low : Key) (changes : Changes)
     → filter (λ change. not (not (is_gt (key_cmp low change.0)))) changes ≡ filter (λ change. is_gt (key_cmp low change.0)) changes
 before_key low changes = ap (λ (test : Key × Option Value → Bool). filter test changes) (fun_ext (λ change. not_not (is_gt (key_cmp low change.0))))
 
--- the changes before the first key of the next chunk are the chunk's own
-pub own_by_first : (next : Slot) (later : List Slot) (changes : Changes) → slice_get later 0 ≡ Some next
-    → filter (λ change. not (not (is_gt (key_cmp next.first change.0)))) changes ≡ own_changes later changes
-own_by_first next [] changes is = cc
-own_by_first next (slot ∷ later) changes is = let same : slot ≡ next = cc in rw same (before_key next.first changes)
+-- the changes before the first key of the next block are the block's own
+pub own_by_first : (next : Placed) (key : Key) (later : List Placed) (changes : Changes) → slice_get later 0 ≡ Some next → key ≡ next.first
+    → filter (λ change. not (not (is_gt (key_cmp key change.0)))) changes ≡ own_changes later changes
+own_by_first next key [] changes is at = cc
+own_by_first next key (slot ∷ later) changes is at = let same : slot ≡ next = cc in rw (same, at) (before_key next.first changes)
 
--- and those from there on fall to the chunks behind
-pub later_by_first : (next : Slot) (later : List Slot) (changes : Changes) → slice_get later 0 ≡ Some next
-    → filter (λ change. not (is_gt (key_cmp next.first change.0))) changes ≡ later_changes later changes
-later_by_first next [] changes is = cc
-later_by_first next (slot ∷ later) changes is = let same : slot ≡ next = cc in rw same refl
+-- and those from there on fall to the blocks behind
+pub later_by_first : (next : Placed) (key : Key) (later : List Placed) (changes : Changes) → slice_get later 0 ≡ Some next → key ≡ next.first
+    → filter (λ change. not (is_gt (key_cmp key change.0))) changes ≡ later_changes later changes
+later_by_first next key [] changes is at = cc
+later_by_first next key (slot ∷ later) changes is at = let same : slot ≡ next = cc in rw (same, at) refl

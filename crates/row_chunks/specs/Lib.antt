@@ -1,5 +1,4 @@
-pub mod Sizes
 pub mod Cut
-pub mod Chunks
+pub mod Blocks
 pub mod Passed
 pub mod Split

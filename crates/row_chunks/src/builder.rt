@@ -1,107 +1,114 @@
 ghost use Rattle.std.specs.Prelude.{◌≡◌, ◌++◌, [], IfOk};
 ghost use Rattle.alto_rows.specs.Changes.{AreOrdered, changed};
 ghost use Rattle.alto_rows.specs.Rows.{AreSorted};
-ghost use Rattle.row_chunks.specs.Chunks.{AllBegin, BeginsAt, joined, rows_of};
+ghost use Rattle.row_chunks.specs.Blocks.{AllBegin, BeginsAt, joined};
 
+use crate::block::Block;
+use crate::blocks::Blocks;
 use crate::changes::{Change, split_changes};
-use crate::chunk::FEW_ROWS;
-use crate::list::ChunkList;
-use crate::merge::with_changed;
 use crate::slot::Slot;
-use alto_rows::{Key, Value};
 use std::alloc::{AllocError, Global};
 use std::marker::Model;
 
-/// A list of chunks in the making, and behind it rows that are in no chunk yet. A contract sees all rows.
+/// A list of blocks in the making, and behind it rows that are in no block of the list yet. A contract sees all rows.
 #[derive(Drop)]
-pub(crate) struct Builder {
-    list: ChunkList,
-    loose: Vec<(Key, Value)>,
+struct Builder<B: Block> {
+    list: Blocks<B>,
+    loose: B,
 }
 
-impl Model for Builder {
+impl<B: Block> Model for Builder<B> {
     ghost use Rattle.std.specs.Prelude.{◌++◌};
     ghost use Rattle.alto_rows.specs.Rows.{Rows};
 
     ghost Value = { Rows };
 
-    ghost view = { λ builder. builder.list ++ builder.loose.items };
+    ghost view = { λ builder. builder.list ++ B.rows builder.loose };
 }
 
-impl Builder {
-    /// No rows.
-    fn new(alloc: Global) -> Builder
-        ensures { result ≡ [] }
-    {
-        Builder {
-            list: ChunkList::new(alloc),
-            loose: Vec::new(alloc),
-        }
-    }
-
-    /// The rows with those of a chunk after changes. The chunk is shared where nothing changes it and no rows are loose.
-    fn with_chunk(self, slot: &Slot, changes: &[Change]) -> Result<Builder, AllocError>
-        requires begins { BeginsAt slot.now.first (rows_of slot.now) }
-        requires sorted { AreSorted (rows_of slot.now) }
+impl<B: Block> Builder<B> {
+    /// The rows with those of a block after changes. The block is shared where nothing changes it and no row is loose.
+    fn with_block(
+        self,
+        alloc: Global,
+        slot: &Slot<B>,
+        changes: &[Change],
+    ) -> Result<Builder<B>, AllocError>
+        requires begins { BeginsAt slot.now.first slot.now.rows }
+        requires sorted { AreSorted slot.now.rows }
         requires ordered { AreOrdered changes.now }
-        ensures { IfOk result (λ more. more ≡ self ++ changed (rows_of slot.now) changes.now) }
+        ensures { IfOk result (λ more. more ≡ self ++ changed slot.now.rows changes.now) }
     {
         let Builder { list, loose } = self;
-        if changes.is_empty() && loose.is_empty() {
+        if changes.is_empty() && loose.len() == 0 {
             return Ok(Builder {
-                list: list.with_shared(slot)?,
+                list: list.with_slot(slot.shared()?)?,
                 loose,
             });
         }
         Builder {
             list,
-            loose: with_changed(loose, slot.chunk.rows(), changes)?,
+            loose: loose.with_changed(alloc, slot.block(), changes)?,
         }
-        .closed_if_many()
+        .closed_if_many(alloc)
     }
 
-    /// The same rows, and few of them loose: so a small chunk is joined with the next.
-    fn closed_if_many(self) -> Result<Builder, AllocError>
+    /// The same rows, and few of them loose: so a small block is joined with the next.
+    fn closed_if_many(self, alloc: Global) -> Result<Builder<B>, AllocError>
         ensures { IfOk result (λ same. same ≡ self) }
     {
-        let Builder { list, loose } = self;
-        if loose.len() < FEW_ROWS {
-            return Ok(Builder { list, loose });
+        if self.loose.len() < B::FEW_ROWS {
+            return Ok(self);
         }
-        let alloc = *loose.allocator();
         Ok(Builder {
-            list: list.with_rows(loose)?,
-            loose: Vec::new(alloc),
+            list: self.closed(alloc)?,
+            loose: B::empty(alloc),
         })
     }
 
-    /// All rows in chunks, after changes behind the last chunk.
-    fn finish(self, changes: &[Change]) -> Result<ChunkList, AllocError>
+    /// All rows in blocks of the list.
+    fn closed(self, alloc: Global) -> Result<Blocks<B>, AllocError>
+        ensures { IfOk result (λ list. list ≡ self) }
+    {
+        let Builder { list, loose } = self;
+        list.with_blocks(alloc, loose.divided(alloc)?)
+    }
+
+    /// All rows in blocks of the list, after changes behind them.
+    fn finished(self, alloc: Global, changes: &[Change]) -> Result<Blocks<B>, AllocError>
         requires { AreOrdered changes.now }
         ensures { IfOk result (λ list. list ≡ self ++ changed [] changes.now) }
     {
         let Builder { list, loose } = self;
-        list.with_rows(with_changed(loose, &[], changes)?)
+        Builder {
+            list,
+            loose: loose.with_changed(alloc, &B::empty(alloc), changes)?,
+        }
+        .closed(alloc)
     }
 }
 
-/// The rows of chunks after changes. One pass over both: what no change touches is shared.
-pub(crate) fn changed_list(
+/// A list, and behind it the rows of other blocks after changes. One pass over both: what no change touches is shared.
+pub(crate) fn changed_blocks<B: Block>(
     alloc: Global,
-    slots: &[Slot],
+    done: Blocks<B>,
+    slots: &[Slot<B>],
     changes: &[Change],
-) -> Result<ChunkList, AllocError>
+) -> Result<Blocks<B>, AllocError>
     requires begin { AllBegin slots.now }
     requires sorted { AreSorted (joined slots.now) }
     requires ordered { AreOrdered changes.now }
-    ensures { IfOk result (λ list. list ≡ changed (joined slots.now) changes.now) }
+    ensures { IfOk result (λ all. all ≡ done ++ changed (joined slots.now) changes.now) }
 {
-    let mut builder = Builder::new(alloc);
+    let mut builder = Builder {
+        list: done,
+        loose: B::empty(alloc),
+    };
     let mut rest = changes;
     for at in 0..slots.len() {
         let (own, later) = split_changes(rest, &slots[at + 1..]);
-        builder = builder.with_chunk(&slots[at], own)?;
+        builder = builder.with_block(alloc, &slots[at], own)?;
         rest = later;
     }
-    builder.finish(rest)
+    builder.finished(alloc, rest)
 }

@@ -4,6 +4,7 @@ ghost use Rattle.alto_rows.specs.Changes.{AreOrdered, DoAs};
 ghost use Rattle.alto_rows.specs.Order.{key_cmp};
 ghost use Rattle.row_chunks.specs.Split.{changes_before, changes_behind, later_changes, own_changes};
 
+use crate::block::Block;
 use crate::copies::{copy_of_key, copy_of_value};
 use crate::cut::Cut;
 use crate::slot::Slot;
@@ -22,10 +23,10 @@ pub(crate) fn changes_of(alloc: Global, writes: &[Write]) -> Result<Vec<Change>,
     in_order(alloc, last_values(alloc, writes)?)
 }
 
-/// The changes of a chunk, which are those before the first key of the next, and those of the chunks from there on.
-pub(crate) fn split_changes<'a>(
+/// The changes of a block, which are those before the first key of the next, and those of the blocks from there on.
+pub(crate) fn split_changes<'a, B: Block>(
     changes: &'a [Change],
-    later: &[Slot],
+    later: &[Slot<B>],
 ) -> (&'a [Change], &'a [Change])
     requires { AreOrdered changes.now }
     ensures own { result.0.now ≡ own_changes later.now changes.now }
@@ -34,7 +35,7 @@ pub(crate) fn split_changes<'a>(
     let Some(next) = later.first() else {
         return (changes, &[]);
     };
-    split_at_cut(changes, &Cut::Before(&next.first))
+    split_at_cut(changes, &Cut::Before(next.key()))
 }
 
 /// The changes before a cut and those behind it. No search where the first isn't before it.

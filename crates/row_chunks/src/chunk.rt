@@ -1,19 +1,23 @@
-ghost use Rattle.std.specs.Prelude.{◌≡◌, ◌≤◌, length};
+ghost use Rattle.std.specs.Prelude.{◌≡◌, ◌≤◌, ◌++◌, [], IfOk, length, option_copied};
+ghost use Rattle.std.specs.List.{AllByRecursion, flat_map};
+ghost use Rattle.alto_rows.specs.Changes.{AreOrdered, changed};
+ghost use Rattle.alto_rows.specs.Rows.{Rows, AreSorted, IsRunOf};
+ghost use Rattle.row_chunks.specs.Blocks.{first_key};
 ghost use Rattle.row_chunks.specs.Cut.{rows_behind};
-ghost use Rattle.row_chunks.specs.Sizes.{IsChunk};
-ghost use Rattle.alto_rows.specs.Rows.{AreSorted};
 
+use crate::block::Block;
+use crate::changes::Change;
 use crate::cut::Cut;
+use crate::merge::with_changed;
+use crate::pieces::pieces;
 use alto_rows::{Key, Value};
+use std::alloc::{AllocError, Global};
 use std::marker::Model;
 
-/// How many rows a chunk has at most.
-pub(crate) const MOST_ROWS: usize = 256;
+/// How many rows a chunk of a list has at most.
+const MOST_ROWS: usize = 256;
 
-/// So many rows are a chunk at least, where others follow and a write has touched it.
-pub(crate) const FEW_ROWS: usize = 64;
-
-/// Rows that lie together, 1 to 256 of them. A contract sees the rows.
+/// Rows that lie together. A contract sees the rows.
 #[derive(Drop)]
 pub(crate) struct Chunk {
     rows: Vec<(Key, Value)>,
@@ -21,29 +25,60 @@ pub(crate) struct Chunk {
 
 impl Model for Chunk {
     ghost use Rattle.alto_rows.specs.Rows.{Rows};
-    ghost use Rattle.row_chunks.specs.Sizes.{IsChunk};
 
     ghost Value = { Rows };
 
     ghost view = { λ chunk. chunk.rows.items };
-
-    ghost invariant = { λ chunk. IsChunk chunk.rows.items };
 }
 
-impl Chunk {
-    /// A chunk of these rows.
-    pub(crate) fn new(rows: Vec<(Key, Value)>) -> Chunk
-        requires { IsChunk rows.items }
-        ensures { result ≡ rows.items }
-    {
-        Chunk { rows }
+impl Block for Chunk {
+    ghost rows = { λ chunk. chunk };
+
+    ghost most = { 256 };
+
+    const FEW_ROWS: usize = 64;
+
+    fn empty(alloc: Global) -> Chunk {
+        Chunk {
+            rows: Vec::new(alloc),
+        }
     }
 
-    /// The rows.
-    pub(crate) fn rows(&self) -> &[(Key, Value)]
-        ensures { result.now ≡ self.now }
-    {
-        &self.rows
+    fn len(&self) -> usize {
+        self.rows.len()
+    }
+
+    fn first_key(&self) -> Option<&Key> {
+        Some(&self.rows.first()?.0)
+    }
+
+    fn run_behind(&self, cut: &Cut) -> &[(Key, Value)] {
+        tail_behind(&self.rows, cut)
+    }
+
+    fn count_behind(&self, cut: &Cut) -> usize {
+        tail_behind(&self.rows, cut).len()
+    }
+
+    fn with_changed(
+        self,
+        _alloc: Global,
+        chunk: &Chunk,
+        changes: &[Change],
+    ) -> Result<Chunk, AllocError> {
+        Ok(Chunk {
+            rows: with_changed(self.rows, &chunk.rows, changes)?,
+        })
+    }
+
+    fn divided(self, alloc: Global) -> Result<Vec<Chunk>, AllocError> {
+        let mut chunks = Vec::new(alloc);
+        for piece in pieces(alloc, self.rows, MOST_ROWS)? {
+            let mut rows = piece;
+            rows.shrink_to_fit();
+            chunks.push(Chunk { rows })?;
+        }
+        Ok(chunks)
     }
 }
 

@@ -2,18 +2,23 @@ ghost use Rattle.std.specs.Prelude.{◌≡◌, [], IfOk, length, option_copied, 
 ghost use Rattle.alto_rows.specs.Rows.{Rows, AreSorted, IsRunOf, value_of, after, rows_from, rows_past};
 ghost use Rattle.alto_rows.specs.Span.{count_in, rows_from_span};
 
+use crate::block::Block;
+use crate::blocks::Blocks;
 use crate::changes::changes_of;
+use crate::chunk::Chunk;
 use crate::cut::Cut;
-use crate::list::ChunkList;
 use alto_rows::{Key, RowStore, Span, Value, Write};
 use std::alloc::{AllocError, Global};
 use std::marker::Model;
+
+/// Chunks that are shared together: 1 to 64 of them.
+type Page = Blocks<Chunk>;
 
 /// Rows in chunks that versions share: 1 to 256 rows in each. A contract sees them as one list, in the order of their
 /// keys.
 #[derive(Drop)]
 pub struct Chunks {
-    list: ChunkList,
+    pages: Blocks<Page>,
 }
 
 impl Model for Chunks {
@@ -21,9 +26,9 @@ impl Model for Chunks {
 
     ghost Value = { Rows };
 
-    ghost view = { λ chunks. chunks.list };
+    ghost view = { λ chunks. chunks.pages };
 
-    ghost invariant = { λ chunks. AreSorted chunks.list };
+    ghost invariant = { λ chunks. AreSorted chunks.pages };
 }
 
 impl RowStore for Chunks {
@@ -31,11 +36,11 @@ impl RowStore for Chunks {
 
     fn empty(alloc: Global) -> Result<Chunks, AllocError> {
         Ok(Chunks {
-            list: ChunkList::new(alloc),
+            pages: Blocks::empty(alloc),
         })
     }
 
-    /// One search among the first keys, and one in a chunk.
+    /// One search among the first keys of pages, one among those of a page's chunks, and one in a chunk.
     fn get(&self, key: &Key) -> Option<&Value> {
         let row = self.run_from(key).first()?;
         if key.cmp(&row.0).is_eq() {
@@ -52,35 +57,38 @@ impl RowStore for Chunks {
 
     /// The rest of a chunk or, where that is used up, the next chunk.
     fn run_from(&self, key: &Key) -> &[(Key, Value)] {
-        self.list.run_behind(&Cut::Before(key))
+        self.pages.run_behind(&Cut::Before(key))
     }
 
     fn run_after(&self, key: &Key) -> &[(Key, Value)] {
-        self.list.run_behind(&Cut::Behind(key))
+        self.pages.run_behind(&Cut::Behind(key))
     }
 
     fn run_in(&self, span: &Span) -> &[(Key, Value)] {
-        self.list.run_behind(&Cut::BeforeSpan(span))
+        self.pages.run_behind(&Cut::BeforeSpan(span))
     }
 
     fn len(&self) -> usize {
-        self.list.len()
+        self.pages.len()
     }
 
-    /// Four searches: two among the first keys, and one in each of two chunks.
+    /// Six searches: for each end of the span one among the first keys of pages, one among those of a page's chunks, and
+    /// one in a chunk.
     fn count_in(&self, span: &Span) -> usize {
-        let from = self.list.count_behind(&Cut::BeforeSpan(span));
-        let past = self.list.count_behind(&Cut::BehindSpan(span));
+        let from = self.pages.count_behind(&Cut::BeforeSpan(span));
+        let past = self.pages.count_behind(&Cut::BehindSpan(span));
         from - past
     }
 
-    /// One pass over the chunks and the writes, sorted by their keys: c chunks, w writes and t rows of the chunks that
-    /// they touch cost c + t + w log w. A chunk that no write touches is shared, and none of its rows is read. Where a
-    /// touched one is left with less than 64 rows, the next is touched too, and joined with it.
+    /// One pass over the pages and the writes, sorted by their keys, over the chunks of each page that a write touches,
+    /// and over the rows of each chunk that one touches: p pages, c such chunks, r such rows and w writes cost
+    /// p + c + r + w log w. Any other page or chunk is shared, and nothing of it is read. Where a touched chunk is left
+    /// with less than 64 rows, the next of its page is touched too, and joined with it; so is the page behind one that
+    /// is left with less than 4,096.
     fn with(&self, alloc: Global, writes: &[Write]) -> Result<Chunks, AllocError> {
         let changes = changes_of(alloc, writes)?;
         Ok(Chunks {
-            list: self.list.changed(alloc, &changes)?,
+            pages: Blocks::empty(alloc).with_changed(alloc, &self.pages, &changes)?,
         })
     }
 }

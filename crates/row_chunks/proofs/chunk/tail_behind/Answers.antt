@@ -4,7 +4,7 @@ use Rattle.std.proofs.lemmas.List.{take_rest}
 use Rattle.std.proofs.lemmas.List.Sorted.{IsPartitionPoint-from_clause}
 use Rattle.std.specs.Prelude.{not}
 use Rattle.row_chunks.specs.Cut.{keeps}
-use Rattle.row_chunks.proofs.ChunkLemmas.{drop_at_cut}
+use Rattle.row_chunks.proofs.BlockLemmas.{drop_at_cut}
 use Rattle.row_chunks.proofs.CutLemmas.{cut_partitioned}
 use Rattle.row_chunks.proofs.chunk.tail_behind.Goals as goal
 

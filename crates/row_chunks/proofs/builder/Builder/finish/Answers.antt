@@ -1,7 +1,0 @@
--- No rows are sorted.
-use Rattle.std.specs.List.Sorted.{IsStrictlySortedBy}
-use Rattle.row_chunks.proofs.builder.Builder.finish.Goals as goal
-
-pub with_changed-requires-clause-sorted : goal.with_changed-requires-clause-sorted
-unfolding IsStrictlySortedBy
-with_changed-requires-clause-sorted c = tt
