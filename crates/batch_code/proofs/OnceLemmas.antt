@@ -161,7 +161,7 @@ small_in : (write : Write) → IsStored write → IsSmall write.value
 small_in write is =
     small_of (shape_at write.key) write.value ((takes_same write.key write.value).1 is.takes is.stored)
 
-write_apart : (one other : Write) (r s : List ℕ) → IsStored one → IsStored other → write_bytes one ++ r ≡ write_bytes other ++ s → (one ≡ other) × (r ≡ s)
+pub write_apart : (one other : Write) (r s : List ℕ) → IsStored one → IsStored other → write_bytes one ++ r ≡ write_bytes other ++ s → (one ≡ other) × (r ≡ s)
 write_apart one other r s is its e =
     let keys = fields_apart one.key other.key (value_bytes one.value ++ r) (value_bytes other.value ++ s) (head_is _ _ _ _ e) is.stored is.is_key its.is_key
     (sym (append_assoc (fields one.key) (value_bytes one.value) r) ∙ tail_is _ _ _ _ e ∙ append_assoc (fields other.key) (value_bytes other.value) s) in

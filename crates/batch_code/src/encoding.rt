@@ -1,4 +1,4 @@
-ghost use Rattle.std.specs.Prelude.{◌≡◌, ◌≤◌, ◌∷◌, ◌++◌, All, IfOk, OnOk, length};
+ghost use Rattle.std.specs.Prelude.{◌≡◌, ◌≤◌, ◌∷◌, ◌++◌, All, IfOk, OnOk, Some, length};
 ghost use Rattle.std.specs.List.{flat_map};
 ghost use Rattle.alto_rows.specs.Order.{kind_of};
 ghost use Rattle.code_bytes.specs.Pieces.{name, number};
@@ -84,6 +84,17 @@ pub(crate) fn push_write(out: &mut Vec<u8>, write: &Write) -> Result<(), AllocEr
     out.push(kind_number(&write.key))?;
     push_fields(out, &write.key)?;
     push_value(out, &write.value)
+}
+
+/// Writes the write that puts this value.
+pub fn push_row(out: &mut Vec<u8>, key: &Key, value: &Value) -> Result<(), AllocError>
+    requires { IsStored (record { key = key.now; value = Some value.now }) }
+    ensures { OnOk result (out.new.items
+        ≡ out.old.items ++ write_bytes (record { key = key.now; value = Some value.now })) }
+{
+    out.push(kind_number(key))?;
+    push_fields(out, key)?;
+    push_some(out, value)
 }
 
 /// The number of a key's kind.
@@ -199,19 +210,29 @@ fn push_value(out: &mut Vec<u8>, value: &Option<Value>) -> Result<(), AllocError
             out.push(0x00)?;
             Ok(())
         }
-        Some(Value::Unit) => {
+        Some(value) => push_some(out, value),
+    }
+}
+
+/// Writes a value.
+fn push_some(out: &mut Vec<u8>, value: &Value) -> Result<(), AllocError>
+    requires { IsShort (Some value.now) }
+    ensures { OnOk result (out.new.items ≡ out.old.items ++ value_bytes (Some value.now)) }
+{
+    match value {
+        Value::Unit => {
             out.push(0x01)?;
             Ok(())
         }
-        Some(Value::Num(number)) => {
+        Value::Num(number) => {
             out.push(0x02)?;
             out.extend_from_slice(&number.to_be_bytes())
         }
-        Some(Value::Text(text)) => {
+        Value::Text(text) => {
             out.push(0x03)?;
             push_text(out, text)
         }
-        Some(Value::Names(names)) => {
+        Value::Names(names) => {
             out.push(0x04)?;
             push_anes(out, names)
         }

@@ -22,10 +22,11 @@ mod value;
 mod write;
 
 pub use decoding::{decode, decode_head};
-pub use encoding::{encode, encode_head};
+pub use encoding::{encode, encode_head, push_row};
 pub use fault::CodeFault;
 pub use laws::{
     a_written_batch_is_read_again, a_written_head_is_read_again, batches_with_one_spelling_are_one,
     heads_with_one_spelling_are_one, row_of_i1, row_zero_of_e1, spellings_are_in_the_grammar,
     the_grammar_has_no_text_but_spellings,
 };
+pub use write::writes_of;

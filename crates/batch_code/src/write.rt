@@ -24,8 +24,8 @@ pub(crate) fn read_writes(alloc: Global, bytes: &[u8]) -> Result<(Vec<Write>, &[
     Ok((writes, rest))
 }
 
-/// Reads so many writes.
-fn writes_of(alloc: Global, count: u64, bytes: &[u8]) -> Result<(Vec<Write>, &[u8]), Stop>
+/// Reads so many writes from the front of bytes, and gives what is left.
+pub fn writes_of(alloc: Global, count: u64, bytes: &[u8]) -> Result<(Vec<Write>, &[u8]), Stop>
     ensures ok { IfOk result (λ x. All IsStored x.0.items × (length x.0.items ≡ count)
         × (bytes.now ≡ flat_map write_bytes x.0.items ++ x.1.now)) }
     ensures stops { IfErr result (Stops (Times count Writes) bytes.now) }

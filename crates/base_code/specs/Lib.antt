@@ -1,0 +1,5 @@
+pub mod Bases
+pub mod Pieces
+pub mod Faults
+pub mod Parts
+pub mod Examples
