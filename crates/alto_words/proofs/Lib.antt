@@ -1,0 +1,3 @@
+mod BuilderLemmas
+mod FoundLemmas
+mod NumberLemmas

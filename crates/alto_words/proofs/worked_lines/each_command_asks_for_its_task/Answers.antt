@@ -1,0 +1,17 @@
+use Rattle.std.proofs.Common.{refl}
+use Rattle.clap.proofs.OnLiterals.{clap_on_literals}
+use Rattle.alto_words.proofs.worked_lines.each_command_asks_for_its_task.Goals as goal
+
+pub returns : goal.returns
+unfolding clap_on_literals
+returns c = record {
+  init = refl;
+  pipe = refl;
+  usual_turns = refl;
+  import = refl;
+  json = refl;
+  show = refl;
+  help = refl;
+  help_of_a_command = refl;
+  version = refl;
+}

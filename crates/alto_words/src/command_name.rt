@@ -1,0 +1,54 @@
+ghost use Rattle.std.specs.Prelude.{◌≡◌};
+ghost use Rattle.std.specs.List.{find};
+ghost use Rattle.std.specs.Str.{bytes_eq};
+ghost use Rattle.alto_words.specs.Commands.{command_named, text_of};
+
+/// The name of a command.
+#[derive(Clone, Copy, Debug, PartialEq, Eq)]
+pub enum CommandName {
+    Init,
+    Pipe,
+    Import,
+    Show,
+}
+
+/// Every command, in the order in which they are listed.
+const COMMANDS: [CommandName; 4] = [
+    CommandName::Init,
+    CommandName::Pipe,
+    CommandName::Import,
+    CommandName::Show,
+];
+
+impl CommandName {
+    /// The command that a word names, if it names one.
+    pub(crate) fn read(word: &str) -> Option<CommandName>
+        ensures { result ≡ command_named word.now }
+    {
+        first_named(&COMMANDS, word)
+    }
+
+    /// The word that names the command.
+    pub fn as_str(&self) -> &'static str
+        ensures { result.now ≡ text_of self.now }
+    {
+        match self {
+            CommandName::Init => "init",
+            CommandName::Pipe => "pipe",
+            CommandName::Import => "import",
+            CommandName::Show => "show",
+        }
+    }
+}
+
+/// The first of these commands that the word names.
+fn first_named(commands: &[CommandName], word: &str) -> Option<CommandName>
+    ensures { result ≡ find (λ command. bytes_eq (text_of command) word.now) commands.now }
+{
+    for command in commands {
+        if command.as_str() == word {
+            return Some(*command);
+        }
+    }
+    None
+}

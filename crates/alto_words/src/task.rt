@@ -1,0 +1,83 @@
+use crate::command_name::CommandName;
+use alto_names::{Epoch, ImportId};
+use json_tree::Name;
+use std::alloc::AllocError;
+
+/// What a command line asks for.
+#[derive(Debug, PartialEq, Eq, Drop)]
+pub enum Task {
+    /// Makes a store with the row of a new book.
+    Init {
+        /// Where the store is.
+        store: Name,
+        /// With which the book's tags begin.
+        epoch: Epoch,
+        /// How many numbers of a resource are kept: 2 to 32.
+        window: u32,
+    },
+    /// Answers the requests of standard input.
+    Pipe {
+        /// Where the store is.
+        store: Name,
+        /// How often the next edge is waited for: 0 to 1,000.
+        turns: u32,
+    },
+    /// Takes the edits of standard input.
+    Import {
+        /// Where the store is.
+        store: Name,
+        /// By which the import is known.
+        id: ImportId,
+        /// How its body is written.
+        form: Form,
+    },
+    /// Prints a document.
+    Show {
+        /// Where the store is.
+        store: Name,
+        /// Whose document it is. Any text: it need not name a resource.
+        resource: Name,
+    },
+    /// Prints a help text.
+    Help(Topic),
+    /// Prints the version.
+    Version,
+}
+
+/// How the body of an import is written.
+#[derive(Clone, Copy, Debug, PartialEq, Eq)]
+pub enum Form {
+    /// Records of CSV.
+    Csv,
+    /// A JSON object with the list of edits.
+    Json,
+}
+
+/// What a help text is about.
+#[derive(Clone, Copy, Debug, PartialEq, Eq)]
+pub enum Topic {
+    /// The program and all its commands.
+    Program,
+    /// One command.
+    Command(CommandName),
+}
+
+/// Why words give no task.
+#[derive(Clone, Copy, Debug, PartialEq, Eq)]
+pub enum WordsFault {
+    /// The words are outside the grammar.
+    Outside,
+    /// Out of memory.
+    Memory,
+}
+
+impl From<AllocError> for WordsFault {
+    ghost use Rattle.std.specs.Prelude.{◌≡◌};
+    ghost use Rattle.alto_words.specs.declared.task.WordsFault.TheVariants.{Memory};
+
+    ghost from_gives = { λ _ fault. fault ≡ Memory };
+
+    fn from(_: AllocError) -> WordsFault {
+        WordsFault::Memory
+    }
+}
