@@ -15,8 +15,8 @@ use Rattle.alto_book.specs.NumberLaws.{TellsNumbers}
 use Rattle.alto_book.specs.Numbers.{keys_between, rows_at, status_at, updates_graph}
 use Rattle.alto_book.specs.Walks.{document, document_at, patch}
 use Rattle.alto_book.proofs.TellLemmas.{graph_tells}
-use Rattle.alto_desk.specs.Front.{Version, StandsFor, graph_in}
-use Rattle.alto_desk.proofs.FoundLemmas.{graph_found}
+use Rattle.alto_versions.specs.Front.{Version, StandsFor, graph_in}
+use Rattle.alto_versions.proofs.FoundLemmas.{graph_found}
 use Rattle.edge_patch.specs.Documents as documents
 use Rattle.edge_patch.specs.declared.form.PatchForm.{PatchForm}
 use Rattle.tips_graph.specs.declared.status.EdgeStatus.{EdgeStatus}

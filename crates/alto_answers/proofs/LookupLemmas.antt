@@ -9,8 +9,8 @@ use Rattle.alto_names.specs.Name.{named, is_net_byte}
 use Rattle.alto_rows.specs.Entities.{WritesTypedAddr, type_tag}
 use Rattle.alto_rows.specs.Rows.{Rows}
 use Rattle.alto_book.specs.Book.{Book, rows_of}
-use Rattle.alto_desk.specs.Front.{Version, StandsFor, table_in}
-use Rattle.alto_desk.proofs.TableLemmas.{table_found}
+use Rattle.alto_versions.specs.Front.{Version, StandsFor, table_in}
+use Rattle.alto_versions.proofs.TableLemmas.{table_found}
 use Rattle.alto_http.specs.declared.request.Verb.TheVariants as verb
 use Rattle.alto_replies.specs.Reply.{ReplyData}
 use Rattle.alto_answers.specs.declared.outcome.Answer.TheVariants as answer

@@ -16,7 +16,7 @@ use Rattle.alto_book.specs.Legal.{IsLegal}
 use Rattle.alto_book.specs.NumberLaws.{TellsNumbers}
 use Rattle.alto_book.specs.Numbers.{updates_graph}
 use Rattle.alto_book.proofs.StateLemmas.{good_rows}
-use Rattle.alto_desk.specs.Front.{Version, StandsFor, graph_in}
+use Rattle.alto_versions.specs.Front.{Version, StandsFor, graph_in}
 use Rattle.tips_graph.specs.Graph.{GraphData}
 use Rattle.alto_answers.specs.Graphs.{IsVersion}
 use Rattle.alto_answers.specs.Tips.{graph_named}

@@ -6,8 +6,8 @@ use Rattle.alto_rows.specs.declared.key.Key.TheVariants as key
 use Rattle.alto_rows.specs.Prefixes.{prefixes_in}
 use Rattle.alto_rows.specs.Rows.{Rows, has_row}
 use Rattle.alto_book.specs.Book.{Book}
-use Rattle.alto_desk.specs.Front.{NetTable, StandsFor, Version, table_in, tables_in}
-use Rattle.alto_desk.proofs.TableLemmas.{table_found}
+use Rattle.alto_versions.specs.Front.{NetTable, StandsFor, Version, table_in, tables_in}
+use Rattle.alto_versions.proofs.TableLemmas.{table_found}
 use Rattle.alto_http.specs.declared.request.Verb.{Verb}
 use Rattle.alto_answers.specs.declared.outcome.Answer.{Answer}
 use Rattle.alto_answers.specs.declared.route.Query.{Query}

@@ -1,7 +1,7 @@
 -- What answers take from a version.
 use Rattle.alto_book.specs.Book.{Book}
 use Rattle.alto_book.specs.Legal.{IsLegal}
-use Rattle.alto_desk.specs.Front.{Version, StandsFor}
+use Rattle.alto_versions.specs.Front.{Version, StandsFor}
 
 -- the version of some legal book
 abbrev pub IsVersion : Version → Type 0

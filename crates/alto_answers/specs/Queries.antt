@@ -22,7 +22,7 @@ use Rattle.path_docs.specs.PathCosts.{path_costs}
 use Rattle.path_docs.specs.PathProperties.{path_properties}
 use Rattle.prop_docs.specs.Ask.{PropAskData, ReadsPropAsk}
 use Rattle.prop_filters.specs.Filter.{filtered_properties}
-use Rattle.alto_desk.specs.Front.{Version}
+use Rattle.alto_versions.specs.Front.{Version}
 use Rattle.alto_http.specs.declared.request.Verb.{Verb}
 use Rattle.alto_http.specs.declared.request.Verb.TheVariants as verb
 use Rattle.alto_replies.specs.Errors.{reply_or_error}

@@ -1,7 +1,7 @@
 ghost use Rattle.std.specs.Prelude.{IfOk};
 ghost use Rattle.alto_book.specs.Book.{Book};
 ghost use Rattle.alto_book.specs.Legal.{IsLegal};
-ghost use Rattle.alto_desk.specs.Front.{StandsFor};
+ghost use Rattle.alto_versions.specs.Front.{StandsFor};
 ghost use Rattle.alto_answers.specs.Answers.{AnswersTo, BringsEdits, HasBytes};
 ghost use Rattle.alto_answers.specs.Graphs.{IsVersion};
 
@@ -16,10 +16,10 @@ use crate::queries::query;
 use crate::route::Place;
 use crate::target::path_of;
 use crate::tips::tips;
-use alto_desk::Front;
 use alto_http::Request;
 use alto_replies::not_found;
 use alto_rows::RowStore;
+use alto_versions::Front;
 use std::alloc::{AllocError, Global};
 
 /// What a request of a client comes to at a version: a refusal for the first of no route, another

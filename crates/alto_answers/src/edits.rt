@@ -7,7 +7,7 @@ ghost use Rattle.alto_answers.specs.Target.{segment};
 use crate::form::Form;
 use crate::outcome::Answer;
 use crate::target::segment;
-use alto_desk::Command;
+use alto_book::Command;
 use alto_http::{Request, Verb};
 use alto_names::{ImportId, NameFault};
 use alto_replies::{bad_form, form_reply, status_alone, wrong_method};

@@ -1,7 +1,7 @@
 //! What each query answers.
 ghost use Rattle.std.specs.Prelude.{◌≡◌, ◌≢◌, true, Ok, Err, IfOk, IfErr};
 ghost use Rattle.json_tree.specs.Tree.{data_of};
-ghost use Rattle.alto_desk.specs.Front.{tables_in};
+ghost use Rattle.alto_versions.specs.Front.{tables_in};
 ghost use Rattle.alto_rows.specs.declared.key.Key.TheVariants as key;
 ghost use Rattle.alto_rows.specs.Good.{AreGood};
 ghost use Rattle.alto_rows.specs.Prefixes.{prefixes_in};
@@ -16,10 +16,10 @@ use crate::client::Client;
 use crate::route::Query;
 use crate::types::{COST_MAP, ENDPOINT_COST, NETWORK_MAP, PATH_VECTOR, PROPERTY_MAP};
 use alto_asks::AskFault;
-use alto_desk::Front;
 use alto_names::NetName;
 use alto_replies::{Reply, document_reply, ok_reply};
 use alto_rows::RowStore;
+use alto_versions::Front;
 use cost_filters::{filter_cost, read_cost_ask};
 use endpoint_costs::{EndAsk, endpoint_cost, read_end_ask};
 use json_tree::Tree;

@@ -1,4 +1,4 @@
-use alto_desk::Command;
+use alto_book::Command;
 use alto_replies::Reply;
 use alto_rows::Resource;
 

@@ -4,7 +4,7 @@ ghost use Rattle.std.specs.Prelude.{◌≡◌, ◌≢◌, true, Ok, Err, IfOk, I
 ghost use Rattle.std.specs.Str.{str_to_ascii_lowercase};
 ghost use Rattle.json_tree.specs.Tree.{data_of};
 ghost use Rattle.alto_book.specs.Book.{Book};
-ghost use Rattle.alto_desk.specs.Front.{StandsFor, tables_in};
+ghost use Rattle.alto_versions.specs.Front.{StandsFor, tables_in};
 ghost use Rattle.alto_rows.specs.declared.key.Key.TheVariants as key;
 ghost use Rattle.alto_rows.specs.Good.{AreGood};
 ghost use Rattle.alto_rows.specs.Rows.{has_row};
@@ -23,11 +23,11 @@ use crate::outcome::Answer;
 use crate::route::Query;
 use crate::target::segment;
 use alto_asks::{AskFault, read_ask};
-use alto_desk::Front;
 use alto_http::{Request, Verb};
 use alto_names::NetName;
 use alto_replies::{Reply, not_found, reply_or_error, status_alone, wrong_method};
 use alto_rows::RowStore;
+use alto_versions::Front;
 use json_tree::Tree;
 use std::alloc::{AllocError, Global};
 

@@ -80,7 +80,7 @@ known_leaves book import moment numbered h = rw h refl
 -- ---- what holds of a new batch
 
 -- an id that is not known is of no batch
-unknown : (kept : List Kept) (start : ℕ) (id : List ℕ) → find (λ numbered. same_name numbered.1.id id) (enumerate_from start kept) ≡ None
+pub unknown : (kept : List Kept) (start : ℕ) (id : List ℕ) → find (λ numbered. same_name numbered.1.id id) (enumerate_from start kept) ≡ None
     → list_any (same_name id) (map (λ one. one.id) kept) ≡ false
 unknown [] start id h = refl
 unknown (first ∷ kept) start id h = by (unknown kept (start + 1) id) (same_name first.id id) refl h

@@ -6,8 +6,9 @@ ghost use Rattle.alto_cli.specs.Words.{turns_of};
 ghost use Rattle.alto_cli.specs.Status.{reads_at, writes_at, status_of};
 
 use crate::grammar::turns_of;
-use alto_desk::Desk;
+use alto_desk::{Desk, desk_in_memory};
 use alto_http::{Link, write_all};
+use alto_keeper::MemKeeper;
 use alto_names::{Epoch, NameFault};
 use alto_serve::{Clock, End, Side, Solo, serve_conn};
 use json_tree::Name;
@@ -76,11 +77,11 @@ fn pipe<L: Link, C: Clock>(alloc: Global, console: &mut L, clock: &C, turns: u32
 }
 
 /// A new book in memory.
-fn new_desk(alloc: Global) -> Result<Desk<Chunks>, AllocError>
-    ensures { IfOk result (λ desk. desk ≡ opening_book (codes "e1") 8) }
+fn new_desk(alloc: Global) -> Result<Desk<MemKeeper, Chunks>, AllocError>
+    ensures { IfOk result (λ desk. desk.ledger.book ≡ opening_book (codes "e1") 8) }
 {
     match Epoch::read(alloc, EPOCH) {
-        Ok(epoch) => Desk::start(alloc, epoch, WINDOW),
+        Ok(epoch) => desk_in_memory(alloc, &epoch, WINDOW),
         Err(NameFault::Memory) => Err(AllocError),
         Err(_) => unreachable!(),
     }

@@ -1,12 +1,12 @@
 -- What accepting an import comes to, case by case.
-use Rattle.std.proofs.Common.{◌≡◌, ◌≢◌, ℕ, ◌+◌, List, Some, None, Result, Ok, Err, refl, sym, ◌∙◌, subst}
+use Rattle.std.proofs.Common.{◌≡◌, ◌≢◌, ℕ, ◌+◌, List, Some, None, Result, Ok, Err, refl, sym, ◌∙◌, ap, subst}
 use Rattle.std.specs.Prelude.{IfOk, IfErr, OnOk, All}
 use Rattle.alto_rows.specs.declared.write.Write.{Write}
 use Rattle.alto_edits.specs.Edits.{IsEdit}
 use Rattle.alto_edits.specs.Compiled.{compiled}
 use Rattle.alto_edits.specs.declared.rule.CompileFault.{CompileFault}
 use Rattle.alto_edits.specs.declared.rule.CompileFault.TheVariants as compiling
-use Rattle.alto_book.specs.Acceptance.{accept, known, answer_known, batch_of, past_of, next_moment, with_batch}
+use Rattle.alto_book.specs.Acceptance.{Outcome, accept, known, answer_known, batch_of, past_of, next_moment, with_batch}
 use Rattle.alto_book.specs.Book.{Kept, Book, number_of, all_kept, rows_of}
 use Rattle.alto_book.specs.Faults.{edit_fault}
 use Rattle.alto_book.specs.Legal.{IsLegal}
@@ -33,9 +33,10 @@ ok_itself : {T E : Type 0} (r answer : Result T E) → answer ≡ r → IfOk r (
 ok_itself (Ok x) answer h = h
 ok_itself (Err e) answer h = tt
 
-err_itself : (r answer : Result Receipt EditFault) → answer ≡ r → IfErr r (λ e. e ≢ fault.Memory → answer ≡ Err e)
+err_itself : (r answer : Result Receipt EditFault) → answer ≡ r
+    → IfErr r (λ e. e ≢ fault.Memory → e ≢ fault.Keeper → answer ≡ Err e)
 err_itself (Ok x) answer h = tt
-err_itself (Err e) answer h = λ _. h
+err_itself (Err e) answer h = λ _ _. h
 
 always_ok : {T E P : Type 0} (r : Result T E) → P → OnOk r P
 always_ok (Ok x) p = p
@@ -49,7 +50,7 @@ known_ok book import moment numbered r h answered =
 
 pub known_err : (book : Book) (import : Import) (moment : ℕ) (numbered : ℕ × Kept) (r : Result Receipt EditFault)
     → Some numbered ≡ known (all_kept book) import.id → r ≡ answer_known numbered import
-    → IfErr r (λ e. e ≢ fault.Memory → (accept book import moment).answer ≡ Err e)
+    → IfErr r (λ e. e ≢ fault.Memory → e ≢ fault.Keeper → (accept book import moment).answer ≡ Err e)
 known_err book import moment numbered r h answered =
     err_itself r _ (answer_to_known book import moment numbered h ∙ sym answered)
 
@@ -67,19 +68,15 @@ refused book import moment (compiling.Broken row rule) new broken known_fault =
     let breaks = broken (λ e. cc) in rw (← new, breaks) refl
 refused book import moment compiling.Memory new broken known_fault = absurd (known_fault refl)
 
--- the book after a new import whose edits make these writes
-pub book_of_new : (book : Book) (import : Import) (moment : ℕ) (writes : List Write)
+-- what becomes of a new import whose edits make these writes
+pub accepted_new : (book : Book) (import : Import) (moment : ℕ) (writes : List Write)
     → None ≡ known (all_kept book) import.id → compiled (rows_of book) import.edits (past_of book) ≡ Ok writes
-    → (accept book import moment).book ≡ with_batch book (batch_of book import moment writes)
+    → accept book import moment ≡ record {
+      answer = Ok (record { n = number_of book + 1; moment = next_moment book moment });
+      book = with_batch book (batch_of book import moment writes);
+    }
 unfolding accept
-book_of_new book import moment writes new compiles = rw (← new, compiles) refl
-
--- and its receipt
-pub answer_to_new : (book : Book) (import : Import) (moment : ℕ) (writes : List Write)
-    → None ≡ known (all_kept book) import.id → compiled (rows_of book) import.edits (past_of book) ≡ Ok writes
-    → (accept book import moment).answer ≡ Ok (record { n = number_of book + 1; moment = next_moment book moment })
-unfolding accept
-answer_to_new book import moment writes new compiles = rw (← new, compiles) refl
+accepted_new book import moment writes new compiles = rw (← new, compiles) refl
 
 -- the book after a new import is legal
 pub legal_new : (book : Book) (import : Import) (moment : ℕ) (writes : List Write)
@@ -87,4 +84,5 @@ pub legal_new : (book : Book) (import : Import) (moment : ℕ) (writes : List Wr
     → None ≡ known (all_kept book) import.id → compiled (rows_of book) import.edits (past_of book) ≡ Ok writes
     → IsLegal (with_batch book (batch_of book import moment writes))
 legal_new book import moment writes legal edits new compiles =
-    subst IsLegal (book_of_new book import moment writes new compiles) (accept_legal book import moment legal edits)
+    subst IsLegal (ap (λ (outcome : Outcome). outcome.book) (accepted_new book import moment writes new compiles))
+    (accept_legal book import moment legal edits)

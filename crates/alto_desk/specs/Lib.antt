@@ -1,5 +1,5 @@
-pub mod Front
-pub mod Graphs
-pub mod Desk
-pub mod Resources
-pub mod Tables
+pub mod Ledger
+pub mod Records
+pub mod Opening
+pub mod Counts
+pub mod Faults

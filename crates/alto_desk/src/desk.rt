@@ -1,182 +1,191 @@
-ghost use Rattle.std.specs.Prelude.{◌≡◌, ◌≢◌, ◌≤◌, ◌+◌, IfOk, IfErr, Ok, Err, OnOk, OnErr, All, option_map};
+ghost use Rattle.std.specs.Prelude.{◌≡◌, ◌≢◌, ◌⊎◌, ◌+◌, pos, All, Err, IfErr, IfOk, None, Ok, OnErr, OnOk, map};
 ghost use Rattle.std.specs.Arc.{arc_value};
 ghost use Rattle.alto_edits.specs.Edits.{IsEdit};
-ghost use Rattle.alto_book.specs.Acceptance.{accept, past_of, with_batch};
-ghost use Rattle.alto_book.specs.Acceptance as spec;
-ghost use Rattle.alto_book.specs.Book.{all_kept, kept_of, number_of, opening_book, opening_rows, rows_of};
-ghost use Rattle.alto_edits.specs.Compiled.{compiled};
+ghost use Rattle.alto_book.specs.Acceptance.{accept, known};
+ghost use Rattle.alto_book.specs.Book.{all_kept, number_of};
 ghost use Rattle.alto_book.specs.Legal.{IsLegal};
-ghost use Rattle.alto_desk.specs.Front.{StandsFor};
+ghost use Rattle.alto_keeper.specs.Stored.{IsNext, StoredData, Stays, with_row};
+ghost use Rattle.alto_versions.specs.Front.{StandsFor};
+ghost use Rattle.alto_desk.specs.Counts.{after_edit, after_fault};
+ghost use Rattle.alto_desk.specs.Opening.{Explains};
+ghost use Rattle.alto_desk.specs.Records.{Backs, StoredAs};
 
-use crate::front::Front;
-use crate::known::{answer_known, batch_of, known, last_moment};
+use crate::fault::OpenFault;
+use crate::known::answer_known;
+use crate::ledger::Ledger;
+use crate::opening::opened;
+use crate::records::read_records;
+use crate::tally::Tally;
 use alto_book::{Command, EditFault, Receipt};
-use alto_edits::{CompileFault, Past};
-use alto_names::Epoch;
-use alto_rows::{Batch, Key, RowStore, Value, Write};
-use alto_rules::compile;
-use json_tree::Name;
-use std::alloc::{AllocError, Global};
-use std::marker::Model;
+use alto_keeper::{KeepFault, Keeper};
+use alto_rows::{Batch, RowStore};
+use alto_versions::Front;
+use batch_code::encode;
+use std::alloc::Global;
 use std::sync::Arc;
 
-/// A book of accepted batches, and the version that they have led to. A contract sees the book.
+/// A book of accepted batches and its records, and the version that they have led to.
 #[derive(Drop)]
-pub struct Desk<R: RowStore> {
-    base: Arc<R>,
-    batches: Vec<Arc<Batch>>,
-    writes: u32,
-    front: Arc<Front<R>>,
+pub struct Desk<K: Keeper + Drop, R: RowStore> {
+    keeper: K,
+    ledger: Ledger<R>,
 }
 
-impl<R: RowStore> Model for Desk<R> {
-    ghost use Rattle.std.specs.Prelude.{map};
-    ghost use Rattle.std.specs.Arc.{arc_value};
-    ghost use Rattle.alto_book.specs.Book.{Book};
-    ghost use Rattle.alto_desk.specs.Desk.{Keeps, book_kept};
+impl<K: Keeper + Drop, R: RowStore> Desk<K, R> {
+    /// Opens the book of what a keeper keeps. A refusal gives the keeper back.
+    ///
+    /// Costs what its batches cost to be read and checked, one after another, and one range table for each network.
+    pub fn open(alloc: Global, keeper: K) -> Result<Desk<K, R>, (K, OpenFault)>
+        ensures opened { IfOk result (λ desk. K.is_clean desk.keeper → (stored : StoredData) → K.holds keeper stored
+            → K.holds desk.keeper stored × StoredAs stored desk.ledger.book) }
+        ensures refused { IfErr result (λ refusal. K.is_clean refusal.0 → (stored : StoredData) → K.holds keeper stored
+            → K.holds refusal.0 stored × Explains refusal.1 stored) }
 
-    ghost Value = { Book };
-
-    ghost view = { λ desk. book_kept (R.rows (arc_value desk.base)) (map arc_value desk.batches.items) };
-
-    ghost invariant = { λ desk.
-        Keeps (book_kept (R.rows (arc_value desk.base)) (map arc_value desk.batches.items))
-        desk.writes (arc_value desk.front) };
-}
-
-impl<R: RowStore> Desk<R> {
-    /// A new book, in memory.
-    pub fn start(alloc: Global, epoch: Epoch, window: u32) -> Result<Desk<R>, AllocError>
-        requires at_least { 2 ≤ window }
-        requires at_most { window ≤ 32 }
-        ensures { IfOk result (λ desk. desk ≡ opening_book epoch window) }
+        ensures clean { IfOk result (λ desk. K.is_clean desk.keeper → K.is_clean keeper) }
+        ensures doubt { IfErr result (λ refusal. K.is_clean refusal.0 → K.is_clean keeper) }
+        ensures same { IfOk result (λ desk. K.faults desk.keeper ≡ K.faults keeper) }
+        ensures counted { IfErr result (λ refusal. K.faults refusal.0 ≡ after_fault refusal.1 (K.faults keeper)) }
     {
-        let base = Arc::new(alloc, first_rows::<R>(alloc, &epoch, window)?)?;
-        let front = Front {
-            n: 0,
-            rows: Arc::try_clone(&base)?,
-            graphs: Vec::new(alloc),
-            tables: Vec::new(alloc),
-        };
-        Ok(Desk {
-            base,
-            batches: Vec::new(alloc),
-            writes: 0,
-            front: Arc::new(alloc, front)?,
-        })
+        let mut keeper = keeper;
+        match read_ledger(alloc, &mut keeper) {
+            Ok(ledger) => Ok(Desk { keeper, ledger }),
+            Err(fault) => Err((keeper, fault)),
+        }
     }
 
     /// The version after all batches.
     pub fn front(&self) -> &Arc<Front<R>>
-        ensures stands { StandsFor (arc_value result.now) self.now }
-        ensures legal { IsLegal self.now }
+        ensures stands { StandsFor (arc_value result.now) self.now.ledger.book }
+        ensures legal { IsLegal self.now.ledger.book }
     {
-        &self.front
+        self.ledger.front()
     }
 
-    /// Accepts an import whole, or refuses it and leaves the book as it was. One that is known gets its receipt again.
+    /// The batches past the base, in order.
+    pub fn batches(&self) -> &[Arc<Batch>]
+        ensures { map arc_value result.now ≡ self.now.ledger.book.batches }
+    {
+        self.ledger.batches()
+    }
+
+    /// The keeper again. Takes no memory.
+    pub fn into_keeper(self) -> K
+        ensures { result ≡ self.keeper }
+    {
+        let Desk { keeper, ledger: _ } = self;
+        keeper
+    }
+
+    /// Accepts an import whole, or refuses it and leaves the book as it was. One that is known gets its receipt again. A
+    /// batch is in the book exactly where the keeper took it: its version is made, and there is room for it, before the
+    /// keeper is called.
     ///
     /// Costs what `compile` and the store's `with` cost, one look at each batch that is kept, two searches for each
-    /// declared resource, whose graph the next version shares, a look at each write for each network, and a range table
-    /// for each network whose prefixes are written.
+    /// declared resource, whose graph the next version shares, a look at each write for each network, a range table
+    /// for each network whose prefixes are written, and the bytes of the batch.
     pub fn edit(
         &mut self,
         alloc: Global,
         command: Command,
         moment: u64,
+        tally: &mut Tally<K>,
     ) -> Result<Receipt, EditFault>
         requires { All IsEdit command.edits }
-        ensures ok { IfOk result (λ receipt. (accept self.old command moment).answer ≡ Ok receipt) }
-        ensures err { IfErr result (λ fault. fault ≢ EditFault.Memory
-            → (accept self.old command moment).answer ≡ Err fault) }
-        ensures accepted { OnOk result (self.new ≡ (accept self.old command moment).book) }
-        ensures unchanged { OnErr result (self.new ≡ self.old) }
+
+        ensures ok { IfOk result (λ receipt. (accept self.old.ledger.book command moment).answer ≡ Ok receipt) }
+        ensures err { IfErr result (λ fault. fault ≢ EditFault.Memory → fault ≢ EditFault.Keeper
+            → (accept self.old.ledger.book command moment).answer ≡ Err fault) }
+        ensures accepted { OnOk result (self.new.ledger.book ≡ (accept self.old.ledger.book command moment).book) }
+        ensures unchanged { OnErr result (self.new.ledger.book ≡ self.old.ledger.book) }
+        ensures legal { IsLegal self.old.ledger.book }
+
+        // What is kept stands for the book.
+        ensures clean { K.is_clean self.new.keeper → K.is_clean self.old.keeper }
+        ensures kept { K.is_clean self.new.keeper → Backs (K.holds self.old.keeper) self.old.ledger.book
+            → Backs (K.holds self.new.keeper) self.new.ledger.book }
+
+        // `Keeper` is answered exactly where the keeper counted a fault.
+        ensures faults { K.faults self.new.keeper ≡ after_edit result (K.faults self.old.keeper) }
+        ensures tally { tally.new.count ≡ after_edit result tally.old.count }
     {
-        if let Some((n, batch)) = self.find(&command) {
+        // The version says that the book is legal.
+        let _version = self.ledger.front();
+        if let Some((n, batch)) = self.ledger.find(&command) {
             return answer_known(n, batch, &command);
         }
-        let writes = self.compile(alloc, &command)?;
-        let batch = batch_of(command, moment.max(self.last_moment()), writes);
-        Ok(self.append(alloc, batch)?)
+        self.accept_new(alloc, command, moment, tally)
     }
 
-    /// The batch that has the import's id, with its number.
-    fn find(&self, command: &Command) -> Option<(u64, &Batch)>
-        ensures { option_map (λ found. (found.0, kept_of found.1.now)) result
-            ≡ spec.known (all_kept self.now) command.now.id }
+    /// Accepts an import whose id is new, or refuses it.
+    fn accept_new(
+        &mut self,
+        alloc: Global,
+        command: Command,
+        moment: u64,
+        tally: &mut Tally<K>,
+    ) -> Result<Receipt, EditFault>
+        requires edits { All IsEdit command.edits }
+        requires new { known (all_kept self.old.ledger.book) command.id ≡ None }
+
+        ensures ok { IfOk result (λ receipt. (accept self.old.ledger.book command moment).answer ≡ Ok receipt) }
+        ensures err { IfErr result (λ fault. fault ≢ EditFault.Memory → fault ≢ EditFault.Keeper
+            → (accept self.old.ledger.book command moment).answer ≡ Err fault) }
+        ensures accepted { OnOk result (self.new.ledger.book ≡ (accept self.old.ledger.book command moment).book) }
+        ensures unchanged { OnErr result (self.new.ledger.book ≡ self.old.ledger.book) }
+
+        ensures clean { K.is_clean self.new.keeper → K.is_clean self.old.keeper }
+        ensures kept { K.is_clean self.new.keeper → Backs (K.holds self.old.keeper) self.old.ledger.book
+            → Backs (K.holds self.new.keeper) self.new.ledger.book }
+        ensures faults { K.faults self.new.keeper ≡ after_edit result (K.faults self.old.keeper) }
+        ensures tally { tally.new.count ≡ after_edit result tally.old.count }
     {
-        known(&self.batches, &command.id)
+        let batch = Arc::new(alloc, self.ledger.next_batch(alloc, command, moment)?)?;
+        let front = self.ledger.version_with(alloc, &batch)?;
+        let bytes = encode(alloc, &batch)?;
+        self.ledger.reserve()?;
+        self.keep(alloc, &bytes, tally)?;
+        Ok(self.ledger.add(batch, front))
     }
 
-    /// The moment of the last batch, 0 where there is none.
-    fn last_moment(&self) -> u64
-        ensures { result ≡ spec.last_moment (all_kept self.now) }
+    /// Has the keeper keep the bytes of the next batch.
+    fn keep(&mut self, alloc: Global, bytes: &[u8], tally: &mut Tally<K>) -> Result<(), EditFault>
+        ensures ledger { self.new.ledger ≡ self.old.ledger }
+        ensures clean { K.is_clean self.new.keeper → K.is_clean self.old.keeper }
+        ensures kept { OnOk result (K.is_clean self.new.keeper → (stored : StoredData) → K.holds self.old.keeper stored
+            → IsNext stored (pos (number_of self.old.ledger.book + 1))
+            → K.holds self.new.keeper (with_row (pos (number_of self.old.ledger.book + 1)) bytes.now stored)) }
+        ensures refused { OnErr result (K.is_clean self.new.keeper
+            → Stays (K.holds self.old.keeper) (K.holds self.new.keeper)) }
+        ensures faults { K.faults self.new.keeper ≡ after_edit result (K.faults self.old.keeper) }
+        ensures tally { tally.new.count ≡ after_edit result tally.old.count }
+        ensures own { IfErr result (λ fault. (fault ≡ EditFault.Memory) ⊎ (fault ≡ EditFault.Keeper)) }
     {
-        last_moment(&self.batches)
-    }
-
-    /// The rows after all batches.
-    fn rows(&self) -> &R
-        ensures rows { R.rows result.now ≡ rows_of self.now }
-        ensures legal { IsLegal self.now }
-    {
-        &self.front.rows
-    }
-
-    /// The writes of an import that is new.
-    fn compile(&self, alloc: Global, command: &Command) -> Result<Vec<Write>, CompileFault>
-        ensures ok { IfOk result (λ writes.
-            compiled (rows_of self.now) command.now.edits (past_of self.now) ≡ Ok writes.items) }
-        ensures err { IfErr result (λ fault. fault ≢ CompileFault.Memory
-            → compiled (rows_of self.now) command.now.edits (past_of self.now) ≡ Err fault) }
-        ensures legal { IsLegal self.now }
-    {
-        compile(alloc, self.rows(), &command.edits, self.past())
-    }
-
-    /// What is kept past the base.
-    fn past(&self) -> Past
-        ensures { result ≡ past_of self.now }
-    {
-        Past {
-            batches: self.batches.len() as u32,
-            writes: self.writes,
+        match self.keeper.append(alloc, self.ledger.next_number(), bytes) {
+            Ok(()) => Ok(()),
+            Err(KeepFault::Failed) => {
+                tally.raise();
+                Err(EditFault::Keeper)
+            }
+            Err(KeepFault::Memory) => Err(EditFault::Memory),
         }
-    }
-
-    /// Adds a batch to the book, and makes the version after it.
-    fn append(&mut self, alloc: Global, batch: Batch) -> Result<Receipt, AllocError>
-        requires { IsLegal (with_batch self.old batch) }
-        ensures receipt { IfOk result (λ receipt.
-            receipt ≡ record { n = number_of self.old + 1; moment = batch.moment }) }
-        ensures ok { OnOk result (self.new ≡ with_batch self.old batch) }
-        ensures err { OnErr result (self.new ≡ self.old) }
-    {
-        let receipt = Receipt {
-            n: self.front.n + 1,
-            moment: batch.moment,
-        };
-        let writes = self.writes + batch.writes.len() as u32;
-        let front = Arc::new(alloc, self.front.with(alloc, &batch)?)?;
-        self.batches.push(Arc::new(alloc, batch)?)?;
-        self.front = front;
-        self.writes = writes;
-        Ok(receipt)
     }
 }
 
-/// The rows of a new book: its epoch and its window.
-fn first_rows<R: RowStore>(alloc: Global, epoch: &Epoch, window: u32) -> Result<R, AllocError>
-    ensures { IfOk result (λ rows. R.rows rows ≡ opening_rows epoch.now window) }
+/// The book of what a keeper keeps.
+fn read_ledger<K: Keeper, R: RowStore>(
+    alloc: Global,
+    keeper: &mut K,
+) -> Result<Ledger<R>, OpenFault>
+    ensures opened { IfOk result (λ ledger. K.is_clean keeper.new → (stored : StoredData) → K.holds keeper.old stored
+        → StoredAs stored ledger.book) }
+    ensures refused { IfErr result (λ fault. K.is_clean keeper.new → (stored : StoredData) → K.holds keeper.old stored
+        → Explains fault stored) }
+    ensures stays { K.is_clean keeper.new → Stays (K.holds keeper.old) (K.holds keeper.new) }
+    ensures clean { K.is_clean keeper.new → K.is_clean keeper.old }
+    ensures same { OnOk result (K.faults keeper.new ≡ K.faults keeper.old) }
+    ensures counted { IfErr result (λ fault. K.faults keeper.new ≡ after_fault fault (K.faults keeper.old)) }
 {
-    let epoch = Write {
-        key: Key::Epoch,
-        value: Some(Value::Text(Name::from_str(alloc, epoch.as_str())?)),
-    };
-    let window = Write {
-        key: Key::Window,
-        value: Some(Value::Num(u64::from(window))),
-    };
-    let none = R::empty(alloc)?;
-    Ok(none.with(alloc, &[epoch, window])?)
+    let stored = keeper.load(alloc)?;
+    let records = read_records(alloc, &stored)?;
+    opened(alloc, records)
 }

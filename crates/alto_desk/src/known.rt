@@ -1,6 +1,7 @@
 //! What a desk looks up among its batches.
-ghost use Rattle.std.specs.Prelude.{◌≡◌, map, option_map};
+ghost use Rattle.std.specs.Prelude.{◌≡◌, ◌<◌, ◌^◌, length, map, option_map};
 ghost use Rattle.std.specs.Arc.{arc_value};
+ghost use Rattle.alto_names.specs.Name.{IsImportId};
 ghost use Rattle.alto_book.specs.Acceptance as book;
 ghost use Rattle.alto_book.specs.Book.{kept_of};
 
@@ -45,13 +46,19 @@ pub(crate) fn last_moment(batches: &[Arc<Batch>]) -> u64
 
 /// The batch of an import.
 pub(crate) fn batch_of(command: Command, moment: u64, writes: Vec<Write>) -> Batch
-    ensures { result ≡ record { id = command.id; digest = command.digest; moment = moment; writes = writes.items } }
+    ensures batch { result
+        ≡ record { id = command.id; digest = command.digest; moment = moment; writes = writes.items } }
+    ensures id { IsImportId result.id }
+    ensures digest { length result.digest ≡ 32 }
+    ensures moment { result.moment < 2 ^ 64 }
 {
     let Command {
         id,
         digest,
         edits: _,
     } = command;
+    // A name says that it is one.
+    let _name = id.as_bytes();
     Batch {
         id,
         digest,

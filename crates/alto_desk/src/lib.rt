@@ -1,19 +1,27 @@
-//! The accepting side of the server: a book of batches, the rows that they lead to, and the versions that are handed out.
+//! The accepting side of the server: a book of batches and its records, and the versions that are handed out.
 //!
 //! ```text
-//! import ──▶ Desk::edit ──▶ receipt
-//!              │ compile, with        Front { n, rows, graphs, tables }  ◀── Desk::front ── every reader
-//!              └────────────────────────▶ a new one for each batch; what no write touched is shared
+//! records ── Desk::open ──▶ Desk ◀── edit ── import          receipt
+//!                            │ compile, version, encode, then Keeper::append, and only then the book has the batch
+//!                            └──▶ Front ◀── Desk::front ── every reader
 //! ```
 #![tactic(auto)]
 
+mod beginning;
 mod desk;
-mod front;
-mod graphs;
+mod fault;
 mod known;
-mod resources;
-mod tables;
+mod ledger;
+mod memory;
+mod opening;
+mod records;
+mod tally;
 
 pub use alto_book::{Command, EditFault, Receipt};
+pub use alto_versions::Front;
+pub use batch_check::BookRule;
+pub use beginning::init;
 pub use desk::Desk;
-pub use front::Front;
+pub use fault::{InitFault, OpenFault};
+pub use memory::desk_in_memory;
+pub use tally::Tally;

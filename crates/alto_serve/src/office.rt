@@ -1,7 +1,7 @@
 ghost use Rattle.std.specs.Prelude.{◌≡◌, ◌≢◌, Bool, Err, IfOk, OnOk, OnErr, All};
 ghost use Rattle.std.specs.Arc.{arc_value};
 ghost use Rattle.alto_edits.specs.Edits.{IsEdit};
-ghost use Rattle.alto_desk.specs.Front.{StandsFor};
+ghost use Rattle.alto_versions.specs.Front.{StandsFor};
 ghost use Rattle.alto_serve.specs.Events.{Emits, IsLook, IsSubmitted, Known, OneLook, OneWait, PrefixOf, Submits};
 
 use alto_desk::{Command, EditFault, Front, Receipt};
@@ -20,12 +20,16 @@ pub trait Looks {
     /// What is known of it: the book that was seen last, and its counters.
     ghost known: { Self → Known };
 
+    /// What it keeps of its records stands for the book that was seen last. No call ends this.
+    ghost is_backed: { Self → Type 0 };
+
     /// Looks: gives the version of a book that is seen from then on. Out of memory, it has looked or not.
     fn front(&mut self, alloc: Global) -> Result<Arc<Front<Self::Rows>>, AllocError>
         ensures stands { IfOk result (λ front. StandsFor (arc_value front) (known self.new).seen) }
         ensures looks { OnOk result (Emits alone (OneLook (known self.new).seen) (known self.old) (known self.new)) }
         ensures lost { OnErr result
-            (Emits alone (PrefixOf (OneLook (known self.new).seen)) (known self.old) (known self.new)) };
+            (Emits alone (PrefixOf (OneLook (known self.new).seen)) (known self.old) (known self.new)) }
+        ensures backed { is_backed self.old → is_backed self.new };
 }
 
 /// What a connection is served through: it looks at versions, has imports accepted, and waits for the next version.
@@ -40,9 +44,11 @@ pub trait Office: Looks {
         ensures lost { result ≡ Err EditFault.Memory
             → Emits Self.alone (PrefixOf (IsSubmitted command moment)) (Self.known self.old) (Self.known self.new) }
         ensures stays { result ≡ Err EditFault.Memory
-            → IsLook Self.alone (Self.known self.old).seen (Self.known self.new).seen };
+            → IsLook Self.alone (Self.known self.old).seen (Self.known self.new).seen }
+        ensures backed { Self.is_backed self.old → Self.is_backed self.new };
 
     /// Waits until there may be more batches than this number. It may end at any time.
     fn wait(&mut self, known: u64)
-        ensures { Emits Self.alone (OneWait known) (Self.known self.old) (Self.known self.new) };
+        ensures waited { Emits Self.alone (OneWait known) (Self.known self.old) (Self.known self.new) }
+        ensures backed { Self.is_backed self.old → Self.is_backed self.new };
 }

@@ -42,6 +42,7 @@ pub fn serve_conn<F: Office, L: Link, C: Clock>(
     ensures reads { L.failed_reads link.new ≡ reads_at result (L.failed_reads link.old) }
     ensures writes { L.failed_writes link.new ≡ writes_at result (L.failed_writes link.old) }
     ensures book { IsGrown (F.known office.new).seen (F.known office.old).seen }
+    ensures backed { F.is_backed office.old → F.is_backed office.new }
 {
     let Ok(routes) = Routes::new(alloc, side) else {
         return End::Memory;
@@ -80,6 +81,7 @@ fn serve_next<F: Office, L: Link, C: Clock>(
     ensures reads { L.failed_reads link.new ≡ reads_so_far result (L.failed_reads link.old) }
     ensures writes { L.failed_writes link.new ≡ writes_so_far result (L.failed_writes link.old) }
     ensures book { IsGrown (F.known office.new).seen (F.known office.old).seen }
+    ensures backed { F.is_backed office.old → F.is_backed office.new }
 {
     match read_request(alloc, intake, link) {
         Ok(Some(request)) => respond(alloc, client, office, link, clock, &request, turns),
@@ -113,6 +115,7 @@ fn respond<F: Office, L: Link, C: Clock>(
     ensures reads { L.failed_reads link.new ≡ reads_so_far result (L.failed_reads link.old) }
     ensures writes { L.failed_writes link.new ≡ writes_so_far result (L.failed_writes link.old) }
     ensures book { IsGrown (F.known office.new).seen (F.known office.old).seen }
+    ensures backed { F.is_backed office.old → F.is_backed office.new }
 {
     let Ok(bytes) = answered(alloc, client, office, clock, request, turns) else {
         return Some(out_of_memory(link));

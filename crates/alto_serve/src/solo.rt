@@ -1,39 +1,44 @@
 ghost use Rattle.std.specs.Prelude.{◌≡◌};
 
 use crate::office::{Looks, Office};
-use alto_desk::{Command, Desk, EditFault, Front, Receipt};
+use alto_desk::{Command, Desk, EditFault, Front, Receipt, Tally};
+use alto_keeper::Keeper;
 use alto_rows::RowStore;
 use std::alloc::{AllocError, Global};
 use std::sync::Arc;
 
 /// The office over one desk, which nobody else edits. Its wait ends at once.
 #[derive(Drop)]
-pub struct Solo<R: RowStore> {
-    desk: Desk<R>,
+pub struct Solo<K: Keeper + Drop, R: RowStore> {
+    desk: Desk<K, R>,
+    tally: Tally<K>,
     looks: u64,
     waits: u64,
 }
 
-impl<R: RowStore> Solo<R> {
+impl<K: Keeper + Drop, R: RowStore> Solo<K, R> {
     /// The office over this desk. Takes no memory.
-    pub fn new(desk: Desk<R>) -> Solo<R>
+    pub fn new(desk: Desk<K, R>) -> Solo<K, R>
         ensures desk { result.desk ≡ desk }
+        ensures tally { result.tally.count ≡ 0 }
         ensures looks { result.looks ≡ 0 }
         ensures waits { result.waits ≡ 0 }
     {
         Solo {
             desk,
+            tally: Tally::new(),
             looks: 0,
             waits: 0,
         }
     }
 
     /// The desk again. Takes no memory.
-    pub fn into_desk(self) -> Desk<R>
+    pub fn into_desk(self) -> Desk<K, R>
         ensures { result ≡ self.desk }
     {
         let Solo {
             desk,
+            tally: _,
             looks: _,
             waits: _,
         } = self;
@@ -41,21 +46,25 @@ impl<R: RowStore> Solo<R> {
     }
 }
 
-impl<R: RowStore> Looks for Solo<R> {
+impl<K: Keeper + Drop, R: RowStore> Looks for Solo<K, R> {
     ghost use Rattle.std.specs.Prelude.{true, []};
+    ghost use Rattle.alto_desk.specs.Records.{Backs};
 
     type Rows = R;
 
     ghost alone = { true };
 
     ghost known = { λ solo. record {
-      seen = solo.desk;
+      seen = solo.desk.ledger.book;
       looks = solo.looks;
       waits = solo.waits;
-      faults = 0;
+      faults = solo.tally.count;
       numbers = [];
       waited = [];
     } };
+
+    ghost is_backed = { λ solo.
+        K.is_clean solo.desk.keeper → Backs (K.holds solo.desk.keeper) solo.desk.ledger.book };
 
     fn front(&mut self, _alloc: Global) -> Result<Arc<Front<R>>, AllocError> {
         let front = Arc::try_clone(self.desk.front())?;
@@ -64,12 +73,10 @@ impl<R: RowStore> Looks for Solo<R> {
     }
 }
 
-impl<R: RowStore> Office for Solo<R> {
+impl<K: Keeper + Drop, R: RowStore> Office for Solo<K, R> {
     fn edit(&mut self, alloc: Global, command: Command, moment: u64) -> Result<Receipt, EditFault> {
-        // The version says that the book is legal, which the clauses need.
-        let _front = self.desk.front();
         self.looks = self.looks.saturating_add(1);
-        self.desk.edit(alloc, command, moment)
+        self.desk.edit(alloc, command, moment, &mut self.tally)
     }
 
     fn wait(&mut self, _known: u64) {

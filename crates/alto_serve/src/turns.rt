@@ -39,6 +39,7 @@ pub(crate) fn answered<F: Office, C: Clock>(
     ensures err { OnErr result (Emits F.alone
         (IsCutOff (setting_of client.now (C.tells clock.now) F.alone turns) request.now)
         (F.known office.old) (F.known office.new)) }
+    ensures backed { F.is_backed office.old → F.is_backed office.new }
 {
     let reply = take_turn(alloc, client, office, clock, request, turns)?;
     reply_bytes(alloc, &reply, request.close)
@@ -60,6 +61,7 @@ fn take_turn<F: Office, C: Clock>(
     ensures err { OnErr result (Emits F.alone
         (IsCutOff (setting_of client.now (C.tells clock.now) F.alone turns) request.now)
         (F.known office.old) (F.known office.new)) }
+    ensures backed { F.is_backed office.old → F.is_backed office.new }
 {
     let answer = settled(alloc, client, office, request, turns)?;
     conclude(alloc, office, clock, answer)
@@ -80,6 +82,7 @@ fn settled<F: Office>(
     ensures replies { IfOk result HasBytes }
     ensures err { OnErr result (Emits F.alone (PrefixOf (IsWaiting client.now request.now turns))
         (F.known office.old) (F.known office.new)) }
+    ensures backed { F.is_backed office.old → F.is_backed office.new }
 {
     let mut look = look_at(alloc, client, office, request)?;
     for _turn in 0..turns {
@@ -114,6 +117,7 @@ fn look_at<F: Office>(
         (F.known office.old) (F.known office.new)) }
     ensures err { OnErr result (Emits F.alone (PrefixOf (OneLook (F.known office.new).seen))
         (F.known office.old) (F.known office.new)) }
+    ensures backed { F.is_backed office.old → F.is_backed office.new }
 {
     let front = office.front(alloc)?;
     let answer = answer(alloc, client, request, &*front)?;
@@ -137,6 +141,7 @@ fn conclude<F: Office, C: Clock>(
     ensures bytes { IfOk result IsReply }
     ensures err { OnErr result (Emits F.alone (PrefixOf (IsConcluded (C.tells clock.now) answer))
         (F.known office.old) (F.known office.new)) }
+    ensures backed { F.is_backed office.old → F.is_backed office.new }
 {
     match answer {
         Answer::Reply(reply) => Ok(reply),
@@ -161,6 +166,7 @@ fn edit<F: Office, C: Clock>(
     ensures in_memory { IfOk result (λ outcome. outcome ≢ Err fault.Memory) }
     ensures lost { OnErr result ((moment : ℕ) × IsMoment (C.tells clock.now) moment
         × Emits F.alone (PrefixOf (IsSubmitted command moment)) (F.known office.old) (F.known office.new)) }
+    ensures backed { F.is_backed office.old → F.is_backed office.new }
 {
     match office.edit(alloc, command, clock.now()) {
         Ok(receipt) => Ok(Ok(receipt)),

@@ -38,6 +38,18 @@ impl<S: Alter + Drop> SqlKeeper<S> {
         }
     }
 
+    /// The connection again. Runs no statement.
+    pub fn into_connection(self) -> Connection<S>
+        ensures { result ≡ self.conn }
+    {
+        let SqlKeeper {
+            conn,
+            is_made: _,
+            faults: _,
+        } = self;
+        conn
+    }
+
     /// How many calls the database has refused.
     pub fn faults(&self) -> u64
         ensures { result ≡ self.now.faults }

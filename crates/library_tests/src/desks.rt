@@ -1,5 +1,6 @@
 //! A desk that tests import into, and what came of an import as a line of text.
-use alto_desk::{Command, Desk, EditFault};
+use alto_desk::{Command, Desk, EditFault, Tally, desk_in_memory};
+use alto_keeper::MemKeeper;
 use alto_names::{Epoch, ImportId};
 use alto_rows::{PlainRows, RowStore, find_resource, print_resource};
 use edit_forms::read_csv;
@@ -7,15 +8,18 @@ use json_tree::Name;
 use std::alloc::Global;
 use std::test::Fail;
 
+/// A desk over plain rows, whose records are in memory.
+pub(crate) type MemDesk = Desk<MemKeeper, PlainRows>;
+
 /// A new book with epoch `e1` and window 8.
-pub(crate) fn new_desk(alloc: Global) -> Result<Desk<PlainRows>, Fail> {
-    Ok(Desk::start(alloc, Epoch::read(alloc, b"e1")?, 8)?)
+pub(crate) fn new_desk(alloc: Global) -> Result<MemDesk, Fail> {
+    Ok(desk_in_memory(alloc, &Epoch::read(alloc, b"e1")?, 8)?)
 }
 
 /// What an import is answered: the number of its batch, or the row and the rule that it breaks.
 pub(crate) fn imported(
     alloc: Global,
-    desk: &mut Desk<PlainRows>,
+    desk: &mut MemDesk,
     id: &str,
     body: &str,
 ) -> Result<String, Fail> {
@@ -24,7 +28,7 @@ pub(crate) fn imported(
         digest: [0; 32],
         edits: read_csv(alloc, body.as_bytes())?,
     };
-    match desk.edit(alloc, command, 100) {
+    match desk.edit(alloc, command, 100, &mut Tally::new()) {
         Ok(receipt) => Ok(format!(in alloc; "{}", receipt.n)?),
         Err(EditFault::Broken { row, rule }) => Ok(format!(in alloc; "row {row} {rule}")?),
         Err(fault) => Ok(format!(in alloc; "{fault}")?),
@@ -32,7 +36,7 @@ pub(crate) fn imported(
 }
 
 /// How many batches and rows there are, and the first and the last kept number of each declared resource.
-pub(crate) fn listing(alloc: Global, desk: &Desk<PlainRows>) -> Result<String, Fail> {
+pub(crate) fn listing(alloc: Global, desk: &MemDesk) -> Result<String, Fail> {
     let front = desk.front();
     let mut text = format!(in alloc; "{} with {} rows", front.n, front.rows.len())?;
     for (of, graph) in &front.graphs {
@@ -44,7 +48,7 @@ pub(crate) fn listing(alloc: Global, desk: &Desk<PlainRows>) -> Result<String, F
 }
 
 /// The declared resource that an id names, as its id, or `none`.
-pub(crate) fn found(alloc: Global, desk: &Desk<PlainRows>, id: &str) -> Result<Name, Fail> {
+pub(crate) fn found(alloc: Global, desk: &MemDesk, id: &str) -> Result<Name, Fail> {
     let rows = &desk.front().rows;
     match find_resource(alloc, &**rows, id.as_bytes())? {
         Some(of) => Ok(print_resource(alloc, &of)?),

@@ -1,7 +1,6 @@
 //! `alto_desk`, through it `alto_rules` and `alto_edits`: each limit, where it is reached and one step past it.
-use crate::desks::{imported, new_desk};
-use alto_desk::Desk;
-use alto_rows::{PlainRows, RowStore};
+use crate::desks::{MemDesk, imported, new_desk};
+use alto_rows::RowStore;
 use std::alloc::Global;
 use std::process::Abort;
 use std::test::Fail;
@@ -26,7 +25,7 @@ fn again(alloc: Global, record: &str, count: usize) -> Result<String, Fail> {
 /// That imports are answered so, each with its body behind ` | `, where `~` ends a record.
 fn are_answered(
     rt: &(impl Abort + AllocGlobal),
-    desk: &mut Desk<PlainRows>,
+    desk: &mut MemDesk,
     table: &str,
 ) -> Result<(), Fail> {
     let alloc = rt.alloc();
@@ -41,7 +40,7 @@ fn are_answered(
 /// That an import, under an id of its own, is answered so.
 fn is_answered(
     rt: &(impl Abort + AllocGlobal),
-    desk: &mut Desk<PlainRows>,
+    desk: &mut MemDesk,
     body: &str,
     expected: &str,
 ) -> Result<(), Fail> {
@@ -56,7 +55,7 @@ fn first_line(body: &str) -> &str {
 }
 
 /// A desk with the network `a`.
-fn desk_with(rt: &(impl Abort + AllocGlobal), body: &str) -> Result<Desk<PlainRows>, Fail> {
+fn desk_with(rt: &(impl Abort + AllocGlobal), body: &str) -> Result<MemDesk, Fail> {
     let mut desk = new_desk(rt.alloc())?;
     is_answered(rt, &mut desk, "net-add,a,,,,", "1")?;
     is_answered(rt, &mut desk, body, "2")?;
@@ -147,7 +146,7 @@ fn costs(alloc: Global, metric: &str, first: u32, last: u32) -> Result<String, F
 /// Puts costs of a metric from the first pair to before this one, by imports of up to 16,383 edits.
 fn put_costs(
     rt: &(impl Abort + AllocGlobal),
-    desk: &mut Desk<PlainRows>,
+    desk: &mut MemDesk,
     metric: &str,
     last: u32,
 ) -> Result<(), Fail> {

@@ -2,7 +2,7 @@ use Rattle.std.proofs.Common.{ap, sym, subst, ◌∙◌}
 use Rattle.std.proofs.lemmas.Result.{IfOk-weaker}
 use Rattle.alto_rows.specs.Good.{AreGood}
 use Rattle.alto_book.proofs.StateLemmas.{good_rows}
-use Rattle.alto_desk.specs.Front.{Version, tables_in}
+use Rattle.alto_versions.specs.Front.{Version, tables_in}
 use Rattle.alto_answers.specs.Answers.{BringsEdits}
 use Rattle.alto_answers.specs.Target.{segment}
 use Rattle.alto_answers.proofs.EdgeLemmas.{edges_bring_none}

@@ -1,7 +1,7 @@
 use Rattle.std.proofs.Common.{◌≡◌, Some, ap, sym, subst, ◌∙◌}
 use Rattle.std.proofs.lemmas.Result.{IfOk-weaker}
 use Rattle.alto_book.specs.Book.{rows_of}
-use Rattle.alto_desk.specs.Front.{Version}
+use Rattle.alto_versions.specs.Front.{Version}
 use Rattle.alto_rows.specs.Good.{AreGood}
 use Rattle.alto_rows.specs.Ids.{resource_named}
 use Rattle.alto_answers.proofs.EdgeLemmas.{graph_some}

@@ -1,7 +1,7 @@
 use Rattle.std.proofs.Common.{ap, refl, ◌∙◌}
 use Rattle.std.specs.Prelude.{Ok, Err}
 use Rattle.std.proofs.lemmas.Result.{err_from_is_err_and}
-use Rattle.alto_desk.specs.Front.{Version}
+use Rattle.alto_versions.specs.Front.{Version}
 use Rattle.alto_answers.proofs.filters.endpoints.Goals as goal
 
 pub returns-in_err-ask-clause-err : goal.returns-in_err-ask-clause-err

@@ -1,5 +1,5 @@
 use Rattle.std.proofs.Common.{◌≡◌, None, ap, sym, ◌∙◌}
-use Rattle.alto_desk.specs.Front.{Version}
+use Rattle.alto_versions.specs.Front.{Version}
 use Rattle.alto_answers.specs.Queries.{net_named}
 use Rattle.alto_answers.proofs.queries.query_reply.Goals as goal
 

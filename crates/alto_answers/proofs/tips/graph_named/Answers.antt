@@ -1,5 +1,5 @@
 use Rattle.std.proofs.Common.{◌≡◌, Some, ap, sym, subst, ◌∙◌}
-use Rattle.alto_desk.specs.Front.{Version}
+use Rattle.alto_versions.specs.Front.{Version}
 use Rattle.alto_rows.specs.Good.{AreGood}
 use Rattle.alto_rows.specs.Ids.{resource_named}
 use Rattle.alto_answers.proofs.NamedLemmas.{graph_of_named, version_good}

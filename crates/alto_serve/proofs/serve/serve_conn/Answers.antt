@@ -33,6 +33,7 @@ loop-count-preserved g c =
       reads = next.reads ∙ before.reads;
       writes = next.writes ∙ before.writes;
       book = grown_on _ _ _ before.book next.book;
+      backed = λ was. next.backed (before.backed was);
     }
 
 pub loop-count-init : goal.loop-count-init
@@ -41,4 +42,5 @@ loop-count-init g c = record {
   reads = refl;
   writes = refl;
   book = grown_itself _;
+  backed = λ was. was;
 }

@@ -7,7 +7,8 @@ use Rattle.alto_serve.specs.Steps.{Becomes, HasServed}
 use Rattle.alto_serve.specs.Turns.{setting_of}
 use Rattle.alto_serve.proofs.serve.serve_conn.Given as goal
 
--- as many requests had their turns as the loop has gone round; no fault was counted; and the book has only grown
+-- as many requests had their turns as the loop has gone round; no fault was counted; the book has only grown, and what
+-- is kept stands for it where it did
 abbrev pub invariant-loop-count : goal.invariant-loop-count
 invariant-loop-count g l =
     let setting = setting_of (client_of l.fn.side l.fn.peer) (g.C.Clock.tells l.fn.clock) g.F.Looks.alone l.fn.turns in
@@ -18,4 +19,5 @@ invariant-loop-count g l =
       reads : g.L.Link.failed_reads l.link ≡ g.L.Link.failed_reads l.fn.link;
       writes : g.L.Link.failed_writes l.link ≡ g.L.Link.failed_writes l.fn.link;
       book : IsGrown (g.F.Looks.known l.office).seen (g.F.Looks.known l.fn.office).seen;
+      backed : g.F.Looks.is_backed l.fn.office → g.F.Looks.is_backed l.office;
     }

@@ -10,6 +10,7 @@ loop-turn-init g c = let all : c.args.turns - 0 ≡ c.args.turns = omega arith i
   number = c.in_ok-look.ensures.number;
   edits = c.in_ok-look.ensures.edits;
   replies = c.in_ok-look.ensures.replies;
+  backed = c.in_ok-look.ensures.backed;
 }
 
 pub returns-then-not-is_pending-clause-ok : goal.returns-then-not-is_pending-clause-ok
@@ -24,7 +25,7 @@ pub returns-in_err-look-2-clause-err : goal.returns-in_err-look-2-clause-err
 returns-in_err-look-2-clause-err g c =
     let held : is_pending c.loop-turn.look.answer ≡ true = cc in
     let one_left : c.args.turns - c.loop-turn._turn ≡ suc (c.args.turns - (c.loop-turn._turn + 1)) = omega arith in
-    let waits = rw c.loop-turn.invariant.number at c.wait.ensures in
+    let waits = rw c.loop-turn.invariant.number at c.wait.ensures.waited in
     on_err_anyhow _
     (later_look_lost _ _ _ _ _ _ _ _ _ _ _ _ _ held one_left c.loop-turn.invariant.met c.loop-turn.invariant.come waits c.in_err-look-2.ensures.err)
 
@@ -32,13 +33,14 @@ pub loop-turn-preserved : goal.loop-turn-preserved
 loop-turn-preserved g c =
     let held : is_pending c.loop-turn.look.answer ≡ true = cc in
     let one_left : c.args.turns - c.loop-turn._turn ≡ suc (c.args.turns - (c.loop-turn._turn + 1)) = omega arith in
-    let waits = rw c.loop-turn.invariant.number at c.wait.ensures in
+    let waits = rw c.loop-turn.invariant.number at c.wait.ensures.waited in
     record {
       come = turn_looks_again _ _ _ _ _ _ _ _ _ _ _ _ _ held one_left c.loop-turn.invariant.met c.loop-turn.invariant.come waits c.in_ok-look-2.ensures.ok;
       met = c.in_ok-look-2.ensures.answer;
       number = c.in_ok-look-2.ensures.number;
       edits = c.in_ok-look-2.ensures.edits;
       replies = c.in_ok-look-2.ensures.replies;
+      backed = λ was. c.in_ok-look-2.ensures.backed (c.wait.ensures.backed (c.loop-turn.invariant.backed was));
     }
 
 pub returns-clause-ok : goal.returns-clause-ok

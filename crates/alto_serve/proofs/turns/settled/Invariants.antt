@@ -15,4 +15,5 @@ invariant-loop-turn g l = record {
   number : l.look.number ≡ number_of (g.F.Looks.known l.office).seen;
   edits : BringsEdits l.look.answer;
   replies : HasBytes l.look.answer;
+  backed : g.F.Looks.is_backed l.fn.office → g.F.Looks.is_backed l.office;
 }

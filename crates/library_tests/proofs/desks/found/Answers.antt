@@ -6,5 +6,5 @@ use Rattle.library_tests.proofs.desks.found.Goals as goal
 
 pub find_resource-requires : goal.find_resource-requires
 find_resource-requires c =
-    let rows : c.deref-2.result.now ≡ rows_of c.args.desk.now = search rules in
+    let rows : c.deref-2.result.now ≡ rows_of c.args.desk.now.ledger.book = search rules in
     subst AreGood (sym rows) (good_rows _ c.front.ensures.legal)

@@ -6,7 +6,8 @@ use Rattle.alto_serve.proofs.solo.SoloLooks.front.Goals as goal
 
 pub returns-in_err-front-clause-lost : goal.returns-in_err-front-clause-lost
 returns-in_err-front-clause-lost g c =
-    on_err_anyhow _ (none_prefix _ (OneLook c.args.self.now.desk) _ (looked c.args.self.now.desk ∷ []) refl)
+    let seen = c.args.self.now.desk.ledger.book in
+    on_err_anyhow _ (none_prefix _ (OneLook seen) _ (looked seen ∷ []) refl)
 
 pub returns-clause-looks : goal.returns-clause-looks
-returns-clause-looks g c = solo_looks _ _ _ _ c.front.ensures.legal c.saturating_add-self.ensures
+returns-clause-looks g c = solo_looks _ _ _ _ _ c.front.ensures.legal c.saturating_add-self.ensures

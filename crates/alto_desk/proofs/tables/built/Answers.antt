@@ -1,8 +1,0 @@
-use Rattle.std.proofs.Common.{◌∙◌, ap, sym, subst}
-use Rattle.alto_desk.proofs.PrefixLemmas.{prefixes_distinct}
-use Rattle.alto_desk.proofs.tables.built.Goals as goal
-use Rattle.pid_prefix.specs.Longest.{AreDistinct}
-
-pub build-requires : goal.build-requires
-build-requires g c =
-    subst AreDistinct (sym (c.deref.ensures.value ∙ c.in_ok-prefixes.ensures)) (prefixes_distinct (g.R.RowStore.rows c.args.rows.now) c.args.net.now c.requires)

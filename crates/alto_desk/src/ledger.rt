@@ -1,0 +1,176 @@
+ghost use Rattle.std.specs.Prelude.{◌≡◌, ◌≢◌, ◌+◌, ◌<◌, ℤ, pos, None, Ok, Err, All, IfErr, IfOk, OnOk, length, map, option_map};
+ghost use Rattle.std.specs.Arc.{arc_value};
+ghost use Rattle.alto_edits.specs.Compiled.{compiled};
+ghost use Rattle.alto_edits.specs.Edits.{IsEdit};
+ghost use Rattle.alto_book.specs.Acceptance.{accept, batch_of, past_of, with_batch};
+ghost use Rattle.alto_book.specs.Acceptance as spec;
+ghost use Rattle.alto_book.specs.Book.{all_kept, kept_of, number_of, rows_of};
+ghost use Rattle.alto_book.specs.Legal.{IsLegal};
+ghost use Rattle.alto_versions.specs.Front.{StandsFor};
+ghost use Rattle.batch_code.specs.Storable.{IsStorable};
+
+use crate::known::{batch_of, known, last_moment};
+use alto_book::{Command, EditFault, Receipt};
+use alto_edits::{CompileFault, Past};
+use alto_rows::{Batch, RowStore, Write};
+use alto_rules::compile;
+use alto_versions::Front;
+use std::alloc::{AllocError, Global};
+use std::marker::Model;
+use std::sync::Arc;
+
+/// A book of accepted batches, and the version that they have led to. A contract sees the book, and how many batches
+/// there is room for.
+#[derive(Drop)]
+pub(crate) struct Ledger<R: RowStore> {
+    pub(crate) base: Arc<R>,
+    pub(crate) batches: Vec<Arc<Batch>>,
+    pub(crate) writes: u32,
+    pub(crate) front: Arc<Front<R>>,
+}
+
+impl<R: RowStore> Model for Ledger<R> {
+    ghost use Rattle.std.specs.Prelude.{map, vec_capacity};
+    ghost use Rattle.std.specs.Arc.{arc_value};
+    ghost use Rattle.alto_desk.specs.Ledger.{LedgerData, Keeps, book_kept};
+
+    ghost Value = { LedgerData };
+
+    ghost view = { λ ledger. record {
+      book = book_kept (R.rows (arc_value ledger.base)) (map arc_value ledger.batches.items);
+      room = vec_capacity ledger.batches;
+    } };
+
+    ghost invariant = { λ ledger.
+        Keeps (book_kept (R.rows (arc_value ledger.base)) (map arc_value ledger.batches.items))
+        ledger.writes (arc_value ledger.front) };
+}
+
+impl<R: RowStore> Ledger<R> {
+    /// The version after all batches.
+    pub(crate) fn front(&self) -> &Arc<Front<R>>
+        ensures stands { StandsFor (arc_value result.now) self.now.book }
+        ensures legal { IsLegal self.now.book }
+    {
+        &self.front
+    }
+
+    /// The batches, in order.
+    pub(crate) fn batches(&self) -> &[Arc<Batch>]
+        ensures { map arc_value result.now ≡ self.now.book.batches }
+    {
+        &self.batches
+    }
+
+    /// The batch that has the import's id, with its number.
+    pub(crate) fn find(&self, command: &Command) -> Option<(u64, &Batch)>
+        ensures { option_map (λ found. (found.0, kept_of found.1.now)) result
+            ≡ spec.known (all_kept self.now.book) command.now.id }
+    {
+        known(&self.batches, &command.id)
+    }
+
+    /// The number of the next batch.
+    pub(crate) fn next_number(&self) -> i64
+        ensures { result ≡ pos (number_of self.now.book + 1) }
+    {
+        self.batches.len() as i64 + 1
+    }
+
+    /// The batch of an import that is new.
+    pub(crate) fn next_batch(
+        &self,
+        alloc: Global,
+        command: Command,
+        moment: u64,
+    ) -> Result<Batch, EditFault>
+        requires edits { All IsEdit command.edits }
+        requires new { spec.known (all_kept self.now.book) command.id ≡ None }
+        ensures ok { IfOk result (λ batch. accept self.now.book command moment ≡ record {
+          answer = Ok (record { n = number_of self.now.book + 1; moment = batch.moment });
+          book = with_batch self.now.book batch;
+        }) }
+        ensures legal { IfOk result (λ batch. IsLegal (with_batch self.now.book batch)) }
+        ensures err { IfErr result (λ fault. fault ≢ EditFault.Memory
+            → (accept self.now.book command moment).answer ≡ Err fault) }
+        ensures own { result ≢ Err EditFault.Keeper }
+        ensures storable { IfOk result IsStorable }
+    {
+        let writes = self.compile(alloc, &command)?;
+        Ok(batch_of(command, moment.max(self.last_moment()), writes))
+    }
+
+    /// The version after one batch more.
+    pub(crate) fn version_with(
+        &self,
+        alloc: Global,
+        batch: &Batch,
+    ) -> Result<Arc<Front<R>>, AllocError>
+        requires { IsLegal (with_batch self.now.book batch.now) }
+        ensures { IfOk result (λ front. StandsFor (arc_value front) (with_batch self.now.book batch.now)) }
+    {
+        Ok(Arc::new(alloc, self.front.with(alloc, batch)?)?)
+    }
+
+    /// Makes room for one batch more.
+    pub(crate) fn reserve(&mut self) -> Result<(), AllocError>
+        ensures book { self.new.book ≡ self.old.book }
+        ensures room { OnOk result (length self.new.book.batches < self.new.room) }
+    {
+        self.batches.reserve(1)
+    }
+
+    /// Adds a batch, with the version after it, where there is room. Takes no memory.
+    pub(crate) fn add(&mut self, batch: Arc<Batch>, front: Arc<Front<R>>) -> Receipt
+        requires room { length self.old.book.batches < self.old.room }
+        requires legal { IsLegal (with_batch self.old.book (arc_value batch)) }
+        requires stands { StandsFor (arc_value front) (with_batch self.old.book (arc_value batch)) }
+        ensures book { self.new.book ≡ with_batch self.old.book (arc_value batch) }
+        ensures receipt { result ≡ record { n = number_of self.old.book + 1; moment = (arc_value batch).moment } }
+    {
+        let receipt = Receipt {
+            n: self.front.n + 1,
+            moment: batch.moment,
+        };
+        self.writes += batch.writes.len() as u32;
+        self.batches.push_reserved(batch);
+        self.front = front;
+        receipt
+    }
+
+    /// The moment of the last batch, 0 where there is none.
+    fn last_moment(&self) -> u64
+        ensures { result ≡ spec.last_moment (all_kept self.now.book) }
+    {
+        last_moment(&self.batches)
+    }
+
+    /// The rows after all batches.
+    fn rows(&self) -> &R
+        ensures rows { R.rows result.now ≡ rows_of self.now.book }
+        ensures legal { IsLegal self.now.book }
+    {
+        &self.front.rows
+    }
+
+    /// What is kept past the base.
+    fn past(&self) -> Past
+        ensures { result ≡ past_of self.now.book }
+    {
+        Past {
+            batches: self.batches.len() as u32,
+            writes: self.writes,
+        }
+    }
+
+    /// The writes of an import that is new.
+    fn compile(&self, alloc: Global, command: &Command) -> Result<Vec<Write>, CompileFault>
+        ensures ok { IfOk result (λ writes.
+            compiled (rows_of self.now.book) command.now.edits (past_of self.now.book) ≡ Ok writes.items) }
+        ensures err { IfErr result (λ fault. fault ≢ CompileFault.Memory
+            → compiled (rows_of self.now.book) command.now.edits (past_of self.now.book) ≡ Err fault) }
+        ensures legal { IsLegal self.now.book }
+    {
+        compile(alloc, self.rows(), &command.edits, self.past())
+    }
+}

@@ -1,0 +1,30 @@
+-- Each resource gets the graph with which those that are left begin, where it is its own.
+use Rattle.std.proofs.Common.{◌∙◌, ap, arith}
+use Rattle.std.proofs.lemmas.List.{map-append}
+use Rattle.std.specs.Arc.{arc_value}
+use Rattle.alto_rows.specs.Versions.{resources_of}
+use Rattle.alto_versions.specs.Graphs.{entries}
+use Rattle.alto_versions.proofs.MatchLemmas.{matched_step, matched_end, graphs_grown}
+use Rattle.alto_versions.proofs.graphs.graphs_after.Goals as goal
+
+pub loop-of-init : goal.loop-of-init
+loop-of-init g c =
+    let all = c.into_iter-of-iterator.ensures.into_iter_gives.0 ∙ (c.in_ok-of-items.ensures ∙ ap resources_of (ap g.R.RowStore.rows c.deref.ensures)) in
+    rw (c.new-after.ensures.items, all)
+
+pub loop-of-preserved : goal.loop-of-preserved
+loop-of-preserved g c =
+    let rows = g.R.RowStore.rows (arc_value c.args.rows.now) in
+    matched_step rows c.args.writes.now (entries c.loop-of.after.items) _ (entries c.loop-of.left.now) (entries c.graphs_from-left.result.now) _
+    c.loop-of.of-iterator.rest.items _ c.in-Some.of _ _
+    c.in-Some.ensures.steps.0
+    (ap entries c.in_ok-push.ensures.items ∙ map-append _ c.loop-of.after.items _)
+    c.in_ok-graph.ensures
+    c.leading_graph.ensures
+    c.graphs_from-left.ensures
+    c.loop-of.invariant
+
+pub returns : goal.returns
+returns g c = λ book batch legal legal_with rows writes graphs.
+    matched_end _ _ (entries c.loop-of.after.items) _ _ c.loop-of.of-iterator.rest.items (omega (arith, c.loop-of.of-iterator.rest.ok, c.in-None.ensures.steps.0)) c.loop-of.invariant
+    ∙ (rw (rows, writes, graphs) (graphs_grown book batch legal legal_with))

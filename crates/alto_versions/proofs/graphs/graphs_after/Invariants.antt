@@ -1,0 +1,13 @@
+use Rattle.std.proofs.Common.{◌≡◌, ◌++◌}
+use Rattle.std.specs.Arc.{arc_value}
+use Rattle.alto_rows.specs.Versions.{resources_of}
+use Rattle.alto_versions.specs.Graphs.{entries}
+use Rattle.alto_versions.proofs.MatchLemmas.{matched}
+use Rattle.alto_versions.proofs.graphs.graphs_after.Given as goal
+
+-- the graphs that are there, and those of the resources that are left, are all
+abbrev pub invariant-loop-of : goal.invariant-loop-of
+invariant-loop-of g l =
+    let rows = g.R.RowStore.rows (arc_value l.rows) in
+    entries l.after.items ++ matched l.of-iterator.rest.items (entries l.left) rows l.writes
+    ≡ matched (resources_of rows) (entries l.graphs) rows l.writes

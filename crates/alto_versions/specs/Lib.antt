@@ -1,0 +1,5 @@
+pub mod Front
+pub mod Graphs
+pub mod Course
+pub mod Resources
+pub mod Tables

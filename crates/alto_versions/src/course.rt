@@ -1,0 +1,98 @@
+ghost use Rattle.std.specs.Prelude.{◌≡◌, ◌<◌, ◌^◌, IfOk};
+ghost use Rattle.std.specs.Arc.{arc_value};
+ghost use Rattle.alto_rows.specs.Good.{AreGood};
+ghost use Rattle.alto_rows.specs.Accepted.{Accepted};
+ghost use Rattle.alto_book.specs.Acceptance.{with_batch};
+ghost use Rattle.alto_book.specs.Book.{Book, opening_book, opening_rows, rows_of};
+ghost use Rattle.alto_book.specs.Legal.{IsLegal};
+ghost use Rattle.alto_versions.specs.Course.{Follows};
+ghost use Rattle.alto_versions.specs.Front.{StandsFor};
+ghost use Rattle.std.specs.Prelude.{List, ℕ};
+
+use crate::front::Front;
+use crate::graphs::graphs_after;
+use crate::tables::tables_of;
+use alto_rows::{Resource, RowStore, Write};
+use std::alloc::{AllocError, Global};
+use std::marker::Model;
+use std::sync::Arc;
+use tips_graph::Graph;
+
+/// A version in the making: all of it but the range tables, which cost much and are asked for at the end alone. So many
+/// batches in a row are gone through as fast as their rows. A contract sees the number, the rows and the graphs.
+#[derive(Drop)]
+pub struct Course<R: RowStore> {
+    n: u64,
+    rows: Arc<R>,
+    graphs: Vec<(Resource, Arc<Graph<R>>)>,
+}
+
+impl<R: RowStore> Model for Course<R> {
+    ghost use Rattle.std.specs.Arc.{arc_value};
+    ghost use Rattle.alto_versions.specs.Course.{CourseData};
+    ghost use Rattle.alto_versions.specs.Graphs.{entries};
+
+    ghost Value = { CourseData };
+
+    ghost view = { λ course. record {
+      n = course.n;
+      rows = R.rows (arc_value course.rows);
+      graphs = entries course.graphs.items;
+    } };
+}
+
+impl<R: RowStore> Course<R> {
+    /// The course of a new book, whose rows these are.
+    pub fn new(alloc: Global, rows: Arc<R>) -> Course<R>
+        ensures { (epoch : List ℕ) (window : ℕ) → R.rows (arc_value rows) ≡ opening_rows epoch window
+            → Follows result (opening_book epoch window) }
+    {
+        Course {
+            n: 0,
+            rows,
+            graphs: Vec::new(alloc),
+        }
+    }
+
+    /// The rows.
+    pub fn rows(&self) -> &R
+        ensures { R.rows result.now ≡ self.now.rows }
+    {
+        &self.rows
+    }
+
+    /// The course with one batch more, whose writes led to these rows.
+    ///
+    /// Costs two searches for each declared resource, whose graph is shared, and a look at each write for each resource
+    /// that the batch gave a number.
+    pub fn with(&self, alloc: Global, rows: R, writes: &[Write]) -> Result<Course<R>, AllocError>
+        requires room { self.now.n < 2 ^ 63 }
+        requires good { AreGood (R.rows rows) }
+        ensures { IfOk result (λ course. (book : Book) (batch : Accepted) → IsLegal book → IsLegal (with_batch book batch)
+            → R.rows rows ≡ rows_of (with_batch book batch) → writes.now ≡ batch.writes
+            → Follows self.now book → Follows course (with_batch book batch)) }
+    {
+        let rows = Arc::new(alloc, rows)?;
+        let graphs = graphs_after(alloc, &self.graphs, &rows, writes)?;
+        Ok(Course {
+            n: self.n + 1,
+            rows,
+            graphs,
+        })
+    }
+
+    /// The version that it has come to: each declared network gets its range table.
+    pub fn into_front(self, alloc: Global) -> Result<Front<R>, AllocError>
+        requires good { AreGood self.rows }
+        ensures { IfOk result (λ front. (book : Book) → Follows self book → StandsFor front book) }
+    {
+        let Course { n, rows, graphs } = self;
+        let tables = tables_of(alloc, &*rows)?;
+        Ok(Front {
+            n,
+            rows,
+            graphs,
+            tables,
+        })
+    }
+}

@@ -1,0 +1,90 @@
+ghost use Rattle.std.specs.Prelude.{◌≡◌, ◌<◌, ◌^◌, IfOk, option_map};
+ghost use Rattle.alto_rows.specs.Good.{AreGood};
+ghost use Rattle.alto_rows.specs.Rows.{after};
+ghost use Rattle.alto_book.specs.Book.{Book};
+ghost use Rattle.alto_book.specs.Legal.{IsLegal};
+ghost use Rattle.alto_book.specs.Acceptance.{with_batch};
+ghost use Rattle.alto_versions.specs.Front.{StandsFor, graph_in, table_in};
+
+use crate::graphs::{graphs_after, is_same};
+use crate::tables::{table_of, tables_after};
+use alto_names::NetName;
+use alto_rows::{Batch, Resource, RowStore};
+use pid_prefix::RangeTable;
+use std::alloc::{AllocError, Global};
+use std::marker::Model;
+use std::sync::Arc;
+use tips_graph::Graph;
+
+/// A version: the rows after some number of batches, the updates graphs that they have led to, and the range tables of
+/// their prefixes. It never changes, and readers share it. A contract sees the number, the rows, the graphs, and the
+/// prefixes of the tables.
+#[derive(Drop)]
+pub struct Front<R: RowStore> {
+    /// How many batches led to it.
+    pub n: u64,
+    /// The rows.
+    pub rows: Arc<R>,
+    /// The updates graph of each declared resource, in the order of resources.
+    pub graphs: Vec<(Resource, Arc<Graph<R>>)>,
+    /// The range table of each declared network, in the order of their names.
+    pub tables: Vec<(NetName, Arc<RangeTable>)>,
+}
+
+impl<R: RowStore> Model for Front<R> {
+    ghost use Rattle.std.specs.Arc.{arc_value};
+    ghost use Rattle.alto_versions.specs.Front.{Version};
+    ghost use Rattle.alto_versions.specs.Graphs.{entries};
+
+    ghost Value = { Version };
+
+    ghost view = { λ front. record {
+      n = front.n;
+      rows = R.rows (arc_value front.rows);
+      graphs = entries front.graphs.items;
+      tables = entries front.tables.items;
+    } };
+}
+
+impl<R: RowStore> Front<R> {
+    /// The updates graph of a resource, where it is kept. Linear in the number of those that are.
+    pub fn graph(&self, of: &Resource) -> Option<&Graph<R>>
+        ensures { option_map (λ graph. graph.now) result ≡ graph_in self.now.graphs of.now }
+    {
+        for (resource, graph) in &self.graphs {
+            if is_same(of, resource) {
+                return Some(graph);
+            }
+        }
+        None
+    }
+
+    /// The range table of a network's prefixes, where the network is declared. Linear in the number of networks.
+    pub fn table(&self, net: &NetName) -> Option<&RangeTable>
+        ensures { option_map (λ table. table.now) result ≡ table_in self.now.tables net.now }
+    {
+        let table = table_of(&self.tables, net)?;
+        Some(table)
+    }
+
+    /// The version after one batch more. It shares what the batch left.
+    ///
+    /// Costs what the store's `with` costs, two searches for each declared resource, a look at each write for each of
+    /// those that the batch gave a number and for each network, and a range table for each network whose prefixes it wrote.
+    pub fn with(&self, alloc: Global, batch: &Batch) -> Result<Front<R>, AllocError>
+        requires room { self.now.n < 2 ^ 63 }
+        requires good { AreGood (after self.now.rows batch.now.writes) }
+        ensures { IfOk result (λ version. (book : Book) → IsLegal book → IsLegal (with_batch book batch.now)
+            → StandsFor self.now book → StandsFor version (with_batch book batch.now)) }
+    {
+        let rows = Arc::new(alloc, self.rows.with(alloc, &batch.writes)?)?;
+        let graphs = graphs_after(alloc, &self.graphs, &rows, &batch.writes)?;
+        let tables = tables_after(alloc, &self.tables, &*rows, &batch.writes)?;
+        Ok(Front {
+            n: self.n + 1,
+            rows,
+            graphs,
+            tables,
+        })
+    }
+}

@@ -1,0 +1,181 @@
+//! The updates graphs of a version, made from those of the version before. All that a batch left is shared.
+ghost use Rattle.std.specs.Prelude.{◌≡◌, ◌≤◌, ◌<◌, ◌^◌, ◌-◌, IfOk, option_map};
+ghost use Rattle.std.specs.Arc.{arc_value};
+ghost use Rattle.std.specs.BTreeMap.{is_at};
+ghost use Rattle.std.specs.Ordering.{is_lt};
+ghost use Rattle.alto_rows.specs.Good.{AreGood};
+ghost use Rattle.alto_rows.specs.Order.{resource_cmp};
+ghost use Rattle.alto_rows.specs.Versions.{version_of, window_of};
+ghost use Rattle.alto_rows.specs.Accepted.{Accepted};
+ghost use Rattle.alto_book.specs.Acceptance.{with_batch};
+ghost use Rattle.alto_book.specs.Book.{Book, rows_of};
+ghost use Rattle.alto_book.specs.Legal.{IsLegal};
+ghost use Rattle.alto_book.specs.Numbers as spec;
+ghost use Rattle.alto_versions.specs.Front.{graphs_of};
+ghost use Rattle.alto_versions.specs.Graphs.{entries, push_after};
+ghost use Rattle.tips_graph.specs.Graph.{with_push};
+ghost use Rattle.alto_versions.specs.Graphs as made;
+
+use crate::resources::resources_of;
+use alto_rows::{Key, Resource, RowStore, Value, Write, touches};
+use std::alloc::{AllocError, Global};
+use std::sync::Arc;
+use tips_graph::Graph;
+
+/// The updates graphs after a batch with these writes, which led to these rows. They share the rows, and the graphs of all
+/// that the batch gave no number.
+///
+/// Costs a walk over the rows of the networks and metrics, one over the graphs, a search for each declared resource, and
+/// a look at each write for each that has a new number.
+pub(crate) fn graphs_after<R: RowStore>(
+    alloc: Global,
+    graphs: &[(Resource, Arc<Graph<R>>)],
+    rows: &Arc<R>,
+    writes: &[Write],
+) -> Result<Vec<(Resource, Arc<Graph<R>>)>, AllocError>
+    requires { AreGood (R.rows (arc_value rows.now)) }
+    ensures { IfOk result (λ after. (book : Book) (batch : Accepted) → IsLegal book → IsLegal (with_batch book batch)
+        → R.rows (arc_value rows.now) ≡ rows_of (with_batch book batch) → writes.now ≡ batch.writes
+        → entries graphs.now ≡ graphs_of book → entries after.items ≡ graphs_of (with_batch book batch)) }
+{
+    let mut left = graphs;
+    let mut after = Vec::new(alloc);
+    for of in resources_of(alloc, &**rows)? {
+        left = graphs_from(left, &of);
+        let graph = graph_after(alloc, leading_graph(left, &of), &of, rows, writes)?;
+        after.push((of, graph))?;
+    }
+    Ok(after)
+}
+
+/// Graphs from the first that isn't of a resource before this one. Linear in the number of those before.
+fn graphs_from<'a, R: RowStore>(
+    graphs: &'a [(Resource, Arc<Graph<R>>)],
+    of: &Resource,
+) -> &'a [(Resource, Arc<Graph<R>>)]
+    ensures { entries result.now ≡ made.graphs_from (entries graphs.now) of.now }
+{
+    let mut left = graphs;
+    while let Some((first, rest)) = left.split_first() {
+        if !is_before(&first.0, of) {
+            return left;
+        }
+        left = rest;
+    }
+    left
+}
+
+/// The graph of a resource, where these begin with it.
+fn leading_graph<'a, R: RowStore>(
+    graphs: &'a [(Resource, Arc<Graph<R>>)],
+    of: &Resource,
+) -> Option<&'a Arc<Graph<R>>>
+    ensures { option_map (λ graph. arc_value graph.now) result ≡ made.leading_graph (entries graphs.now) of.now }
+{
+    let (first, _) = graphs.split_first()?;
+    if is_same(of, &first.0) {
+        Some(&first.1)
+    } else {
+        None
+    }
+}
+
+/// Whether two resources are one.
+pub(crate) fn is_same(of: &Resource, other: &Resource) -> bool
+    ensures { result ≡ is_at (resource_cmp of.now) other.now }
+{
+    of.cmp(other).is_eq()
+}
+
+/// Whether a resource is before another.
+fn is_before(of: &Resource, other: &Resource) -> bool
+    ensures { result ≡ is_lt (resource_cmp of.now other.now) }
+{
+    of.cmp(other).is_lt()
+}
+
+/// The graph of a resource after a batch with these writes, which led to these rows: the same where it has no new
+/// version, and begun with its version where it had none.
+fn graph_after<R: RowStore>(
+    alloc: Global,
+    graph: Option<&Arc<Graph<R>>>,
+    of: &Resource,
+    rows: &Arc<R>,
+    writes: &[Write],
+) -> Result<Arc<Graph<R>>, AllocError>
+    requires { AreGood (R.rows (arc_value rows.now)) }
+    ensures { IfOk result (λ after. arc_value after
+        ≡ made.graph_after (option_map (λ graph. arc_value graph.now) graph.entry)
+        of.now (R.rows (arc_value rows.now)) writes.now) }
+{
+    let version = version(&**rows, of.clone()?);
+    let Some(graph) = graph else {
+        let begun = Graph::resume(alloc, window(&**rows), version.saturating_sub(1))?;
+        return pushed(alloc, &begun, of, rows, writes);
+    };
+    if graph.reached() < version {
+        return pushed(alloc, graph, of, rows, writes);
+    }
+    Arc::try_clone(graph)
+}
+
+/// The graph of a resource with one number more, which these writes made.
+fn pushed<R: RowStore>(
+    alloc: Global,
+    graph: &Graph<R>,
+    of: &Resource,
+    rows: &Arc<R>,
+    writes: &[Write],
+) -> Result<Arc<Graph<R>>, AllocError>
+    requires { graph.now.last < 2 ^ 63 - 1 }
+    ensures { IfOk result (λ after. arc_value after
+        ≡ with_push graph.now (push_after of.now (R.rows (arc_value rows.now)) writes.now)) }
+{
+    let keys = touching(alloc, of, writes)?;
+    Ok(Arc::new(alloc, graph.push(alloc, rows, &keys)?)?)
+}
+
+/// The version that a resource has reached. One search.
+fn version<R: RowStore>(rows: &R, of: Resource) -> u64
+    requires { AreGood (R.rows rows.now) }
+    ensures number { result ≡ version_of (R.rows rows.now) of }
+    ensures room { result < 2 ^ 63 }
+{
+    match rows.get(&Key::Seq(of)) {
+        Some(Value::Num(n)) => *n,
+        _ => 0,
+    }
+}
+
+/// How many versions of a resource are kept. One search.
+fn window<R: RowStore>(rows: &R) -> u32
+    requires { AreGood (R.rows rows.now) }
+    ensures window { result ≡ window_of (R.rows rows.now) }
+    ensures at_least { 2 ≤ result }
+    ensures at_most { result ≤ 32 }
+{
+    match rows.get(&Key::Window) {
+        Some(Value::Num(n)) => *n as u32,
+        _ => 0,
+    }
+}
+
+/// The keys that touch a resource, of these writes.
+fn touching(alloc: Global, of: &Resource, writes: &[Write]) -> Result<Vec<Key>, AllocError>
+    ensures { IfOk result (λ keys. keys.items ≡ spec.touching of.now writes.now) }
+{
+    let mut keys = Vec::new(alloc);
+    for write in writes {
+        if touches(of, &write.key) {
+            keys.push(copied(&write.key)?)?;
+        }
+    }
+    Ok(keys)
+}
+
+/// A copy of a key.
+fn copied(key: &Key) -> Result<Key, AllocError>
+    ensures { IfOk result (λ copy. copy ≡ key.now) }
+{
+    key.clone()
+}

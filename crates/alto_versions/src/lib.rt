@@ -1,0 +1,17 @@
+//! Versions of the book, as readers share them: the rows after some number of batches, the updates graph of each
+//! declared resource, and the range table of each declared network.
+//!
+//! ```text
+//! Front { n, rows, graphs, tables } ── with(batch) ──▶ the next one: what the batch left is shared
+//! Course { n, rows, graphs } ── with(batch) ── with(batch) ── .. ── into_front ──▶ Front: its tables are built once
+//! ```
+#![tactic(auto)]
+
+mod course;
+mod front;
+mod graphs;
+mod resources;
+mod tables;
+
+pub use course::Course;
+pub use front::Front;
