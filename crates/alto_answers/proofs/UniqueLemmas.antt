@@ -15,11 +15,10 @@ use Rattle.alto_http.specs.declared.request.Verb.{Verb}
 use Rattle.alto_http.specs.declared.request.Verb.TheVariants as verb
 use Rattle.alto_replies.specs.Errors.{reply_or_error}
 use Rattle.alto_replies.specs.Reply.{ReplyData}
-use Rattle.edit_forms.proofs.UniqueLemmas.{csv_once, json_once}
+use Rattle.edit_forms.proofs.UniqueLemmas.{form_once}
 use Rattle.alto_answers.proofs.AskLemmas.{AtMostOne, net_named_is_name, prop_ask_once}
 use Rattle.alto_answers.proofs.LookupLemmas.{one_typed_addr}
-use Rattle.alto_answers.specs.declared.form.Form.{Form}
-use Rattle.alto_answers.specs.declared.form.Form.TheVariants as form
+use Rattle.edit_forms.specs.declared.form.Form.{Form}
 use Rattle.alto_answers.specs.declared.outcome.Answer.TheVariants as answer
 use Rattle.alto_answers.specs.declared.route.Place.{Place}
 use Rattle.alto_answers.specs.declared.route.Place.TheVariants as place
@@ -31,18 +30,14 @@ use Rattle.alto_answers.specs.declared.route.Query.{Query}
 use Rattle.alto_answers.specs.declared.route.Query.TheVariants as query
 use Rattle.alto_answers.specs.Queries.{Asked, PostedQuery, QueryAnswer, QueryReply, Queried, Seen, body_type, net_named, net_segment}
 use Rattle.alto_answers.specs.Answers.{seen_at, AnswersTo, EditsAnswer, ImportAnswers, PlaceAnswers, PostedImport, import_of}
-use Rattle.alto_answers.specs.Forms.{Reads, form_of, has_type}
+use Rattle.alto_answers.specs.Forms.{form_of, has_type}
 use Rattle.alto_answers.specs.Lookup.{LookupAnswer, ReadsAddr, lookup_reply, prefixes_named}
 use Rattle.alto_answers.specs.Routes.{place_of}
 use Rattle.alto_answers.specs.Target.{path_of, segment}
 
-reads_once : (form : Form) (body : List ℕ) → AtMostOne (Reads form body)
-reads_once form.Csv body = csv_once body
-reads_once form.Json body = json_once body
-
 import_once : (id : Result (List ℕ) NameFault) (form : Form) (body : List ℕ) → AtMostOne (ImportAnswers id form body)
 import_once (Ok id) form body = λ one other h k.
-    h.2 ∙ ap (import_of id (sha256 body)) (reads_once form body h.0 k.0 h.1 k.1) ∙ sym k.2
+    h.2 ∙ ap (import_of id (sha256 body)) (form_once form body h.0 k.0 h.1 k.1) ∙ sym k.2
 import_once (Err fault) form body = λ one other h k. h ∙ sym k
 
 posted_once : (form : Option Form) (id : Result (List ℕ) NameFault) (body : List ℕ) → AtMostOne (PostedImport form id body)

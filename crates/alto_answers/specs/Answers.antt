@@ -30,10 +30,11 @@ use Rattle.alto_answers.specs.Tips.{tips_answer}
 use Rattle.alto_answers.specs.Types.{directory_type, media_type_of}
 use Rattle.alto_answers.specs.Accept.{patch_form}
 use Rattle.alto_answers.specs.Edges.{edges_answer}
-use Rattle.alto_answers.specs.Forms.{Reads, form_of}
+use Rattle.alto_answers.specs.Forms.{form_of}
 use Rattle.alto_answers.specs.Lookup.{LookupAnswer}
 use Rattle.alto_answers.specs.Queries.{QueryAnswer, Seen, net_segment}
-use Rattle.alto_answers.specs.declared.form.Form.{Form}
+use Rattle.edit_forms.specs.declared.form.Form.{Form}
+use Rattle.edit_forms.specs.Forms.{FormReads}
 
 -- the document of the resource that a text names, if it names one
 abbrev pub map_reply : Rows → Option Resource → ReplyData
@@ -60,7 +61,7 @@ import_of id digest (Err fault) = answer.Reply (form_reply fault)
 -- what an import under an id, if it is one, comes to, whose body is in a form: that of what the body reads as
 abbrev pub ImportAnswers : Result (List ℕ) NameFault → Form → List ℕ → Answer → Type 0
 ImportAnswers (Ok id) form body given =
-    (read : Result (List Edit) FormFault) × Reads form body read × (given ≡ import_of id (sha256 body) read)
+    (read : Result (List Edit) FormFault) × FormReads form body read × (given ≡ import_of id (sha256 body) read)
 ImportAnswers (Err fault) form body given = given ≡ answer.Reply (bad_form 0 0)
 
 -- what an import comes to, whose body is in a form, if its content type names one

@@ -1,15 +1,11 @@
 -- The forms in which an import comes, by its content type (RFC 9110, section 8.3).
-use Rattle.std.specs.Prelude.{ℕ, Bool, false, List, Option, Some, None, Result, if◌then◌else◌, codes, ◌==◌}
+use Rattle.std.specs.Prelude.{ℕ, Bool, false, List, Option, Some, None, if◌then◌else◌, codes, ◌==◌}
 use Rattle.std.specs.List.{before_first}
 use Rattle.std.specs.Str.{str_to_ascii_lowercase}
 use Rattle.httparse.specs.Grammar.{trim_ows}
 use Rattle.alto_rows.specs.Order.{same_name}
-use Rattle.alto_edits.specs.declared.edit.Edit.{Edit}
-use Rattle.edit_forms.specs.declared.fault.FormFault.{FormFault}
-use Rattle.edit_forms.specs.Csv.{CsvReads}
-use Rattle.edit_forms.specs.Json.{JsonReads}
-use Rattle.alto_answers.specs.declared.form.Form.{Form}
-use Rattle.alto_answers.specs.declared.form.Form.TheVariants as form
+use Rattle.edit_forms.specs.declared.form.Form.{Form}
+use Rattle.edit_forms.specs.declared.form.Form.TheVariants as form
 
 -- the code of a semicolon
 abbrev pub semicolon : ℕ
@@ -30,8 +26,3 @@ form_of content_type =
     if has_type (codes "text/csv") content_type then Some form.Csv
     else if has_type (codes "application/json") content_type then Some form.Json
     else None
-
--- what a body in a form reads as: its edits, or the first fault
-abbrev pub Reads : Form → List ℕ → Result (List Edit) FormFault → Type 0
-Reads form.Csv body read = CsvReads body read
-Reads form.Json body read = JsonReads body read

@@ -4,14 +4,14 @@ ghost use Rattle.alto_names.specs.Name.{named, is_import_byte};
 ghost use Rattle.alto_answers.specs.Answers.{BringsEdits, EditsAnswer, HasBytes, ImportAnswers};
 ghost use Rattle.alto_answers.specs.Target.{segment};
 
-use crate::form::Form;
+use crate::form::form_of;
 use crate::outcome::Answer;
 use crate::target::segment;
 use alto_book::Command;
 use alto_http::{Request, Verb};
 use alto_names::{ImportId, NameFault};
 use alto_replies::{bad_form, form_reply, status_alone, wrong_method};
-use edit_forms::FormFault;
+use edit_forms::{Form, FormFault};
 use sha2::{Digest, Sha256};
 use std::alloc::{AllocError, Global};
 
@@ -34,7 +34,7 @@ fn posted(alloc: Global, request: &Request, path: &[u8]) -> Result<Answer, Alloc
     ensures edits { IfOk result BringsEdits }
     ensures has_bytes { IfOk result HasBytes }
 {
-    let Some(form) = Form::of(request) else {
+    let Some(form) = form_of(request) else {
         return Ok(Answer::Reply(status_alone(alloc, 415)?));
     };
     let id = segment(alloc, path, 2)?;

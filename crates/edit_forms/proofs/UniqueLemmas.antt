@@ -11,6 +11,8 @@ use Rattle.alto_rows.proofs.EntityLemmas.{one_block, one_entity}
 use Rattle.alto_edits.specs.declared.edit.Edit.{Edit}
 use Rattle.alto_edits.specs.declared.edit.PropValue.TheVariants as property
 use Rattle.edit_forms.specs.declared.fault.FormFault.{FormFault}
+use Rattle.edit_forms.specs.declared.form.Form.{Form}
+use Rattle.edit_forms.specs.declared.form.Form.TheVariants as form
 use Rattle.edit_forms.specs.declared.operation.Operation.{Operation}
 use Rattle.edit_forms.specs.declared.operation.Operation.TheVariants as op
 use Rattle.edit_forms.specs.declared.value_kind.ValueKind.{ValueKind}
@@ -19,6 +21,7 @@ use Rattle.edit_forms.specs.Columns.{WritesPrefix, WritesAmount, WritesKind, Wri
 use Rattle.edit_forms.specs.Csv.{CsvReads, without_header}
 use Rattle.edit_forms.specs.Edits as edits
 use Rattle.edit_forms.specs.Edits.{BodyReads, First, RecordReads, RecordsRead, before, in_row}
+use Rattle.edit_forms.specs.Forms.{FormReads}
 use Rattle.edit_forms.specs.Json.{ItemsRead, JsonReads, ValueReads, item_records, listed_edits}
 use Rattle.edit_forms.specs.Operations.{operation_in}
 use Rattle.edit_forms.proofs.ValueLemmas.{named_again}
@@ -148,7 +151,7 @@ body_once (first ∷ more) = records_once 1 (first ∷ more)
 
 -- ---- bodies
 
-pub csv_once : (body : List ℕ) → OneWay (CsvReads body)
+csv_once : (body : List ℕ) → OneWay (CsvReads body)
 unfolding CsvReads
 csv_once body = body_once (without_header (records default_config (strip_bom body)))
 
@@ -160,6 +163,10 @@ value_once : (value : Result Data TreeFault) → OneWay (ValueReads value)
 value_once (Err fault) = λ one other h k. h ∙ sym k
 value_once (Ok d) = items_once (listed_edits d)
 
-pub json_once : (body : List ℕ) → OneWay (JsonReads body)
+json_once : (body : List ℕ) → OneWay (JsonReads body)
 unfolding JsonReads
 json_once body = value_once (whole_value body)
+
+pub form_once : (form : Form) (body : List ℕ) → OneWay (FormReads form body)
+form_once form.Csv body = csv_once body
+form_once form.Json body = json_once body

@@ -3,6 +3,7 @@ pub mod Columns
 pub mod Csv
 pub mod Edits
 pub mod Faults
+pub mod Forms
 pub mod Json
 pub mod Operations
 pub mod Records

@@ -29,6 +29,7 @@ mod columns;
 mod csv_body;
 mod edits;
 mod fault;
+mod form;
 mod json_body;
 mod laws;
 mod operation;
@@ -39,5 +40,6 @@ mod values;
 
 pub use csv_body::read_csv;
 pub use fault::FormFault;
+pub use form::Form;
 pub use json_body::read_json;
 pub use laws::a_body_reads_in_one_way;
