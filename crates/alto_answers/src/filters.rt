@@ -20,7 +20,7 @@ use alto_names::NetName;
 use alto_replies::{Reply, document_reply, ok_reply};
 use alto_rows::RowStore;
 use alto_versions::Front;
-use cost_filters::{filter_cost, read_cost_ask};
+use cost_filters::{filter_cost_text, read_cost_ask};
 use endpoint_costs::{EndAsk, endpoint_cost, read_end_ask};
 use json_tree::Tree;
 use net_docs::{filter_net, read_net_ask};
@@ -68,8 +68,8 @@ pub(crate) fn costs<R: RowStore>(
         → Queried Query.CostMap (seen_in front.now client.now.peer) net.now (data_of value.now) (Err fault)) }
 {
     let ask = read_cost_ask(alloc, &*front.rows, net, value)?;
-    let map = filter_cost(alloc, &*front.rows, net, &ask)?;
-    Ok(document_reply(alloc, COST_MAP, &map)?)
+    let map = filter_cost_text(alloc, &*front.rows, net, &ask)?;
+    Ok(ok_reply(alloc, COST_MAP, map)?)
 }
 
 /// The costs between the addresses that an object asks for, or the object's first fault.

@@ -2,7 +2,7 @@
 use Rattle.std.proofs.Common.{◌≡◌, ◌∙◌, ℕ, refl, ap, sym}
 use Rattle.std.proofs.lemmas.Bool.{and_parts}
 use Rattle.std.proofs.lemmas.Map.Views.{any-filter_same}
-use Rattle.std.specs.Prelude.{Bool, true, false, ◌&&◌, cond, List, [], ◌∷◌, filter, map, Option, Some, None, is_some, codes}
+use Rattle.std.specs.Prelude.{Bool, true, false, ◌&&◌, cond, List, [], ◌∷◌, filter, map, Option, Some, None}
 use Rattle.std.specs.List.{list_any}
 use Rattle.serde_json.specs.Data.{Data, object}
 use Rattle.json_tree.specs.Document.{members_of, object_of}
@@ -10,7 +10,7 @@ use Rattle.json_tree.proofs.OrderLemmas.{same_members}
 use Rattle.alto_rows.specs.Good.{AreGood}
 use Rattle.alto_rows.specs.Order.{same_name}
 use Rattle.alto_rows.specs.Rows.{Rows}
-use Rattle.alto_maps.specs.Shape.{Name, document, group_object, section_object}
+use Rattle.alto_maps.specs.Shape.{Name, group_object, section_object}
 use Rattle.alto_maps.proofs.ObjectLemmas.{found-named, in_order-named}
 use Rattle.alto_maps.proofs.SetLemmas.{one}
 use Rattle.net_docs.specs.Filter.{is_picked}
@@ -18,12 +18,10 @@ use Rattle.net_docs.specs.NetworkMap.{pids_of}
 use Rattle.net_docs.specs.declared.ask.Pick.{Pick}
 use Rattle.net_docs.specs.declared.ask.Pick.TheVariants as pick
 use Rattle.cost_docs.specs.CostMap.{cost_of}
-use Rattle.cost_rule.specs.declared.constraint.Constraint.{Constraint}
 use Rattle.cost_filters.specs.declared.types.CostType.{CostType}
 use Rattle.cost_filters.specs.Ask.{CostAskData}
 use Rattle.cost_filters.specs.Columns.{column_cost, column_of, columns_of, dsts_tried, group_value, has_member, pair_value, reached, srcs_tried, valued}
-use Rattle.cost_filters.specs.Filter.{costs_data, costs_of, dsts_shown, filtered_costs, filtered_face, filtered_meta, has_name, is_pair, srcs_shown, tested_costs, typed_cost}
-use Rattle.cost_filters.specs.Holds.{one_holds}
+use Rattle.cost_filters.specs.Filter.{costs_data, costs_of, dsts_shown, filtered_face, has_name, is_pair, srcs_shown, typed_cost}
 use Rattle.cost_filters.proofs.PairLemmas.{pair_reached, pair_stands}
 use Rattle.cost_filters.proofs.ValuedLemmas.{found-valued, has_some, in_order-members_of, some-members_of}
 
@@ -45,34 +43,6 @@ pub columns_tell : (rows : Rows) (net src dst : Name) (types : List CostType)
     → map (column_cost rows net src dst) (columns_of rows net types) ≡ costs_of rows net types src dst
 columns_tell rows net src dst [] = refl
 columns_tell rows net src dst (type ∷ types) = λ i. column_tells rows net src dst type i ∷ columns_tell rows net src dst types i
-
--- there is a cost
-abbrev has_one : List (Option ℕ) → Bool
-has_one costs = list_any (λ cost. is_some cost) costs
-
--- a pair without a cost has no value
-pub no_cost : (rows : Rows) (net : Name) (ask : CostAskData) (src dst : Name) (told : List (Option ℕ))
-    → told ≡ costs_of rows net ask.types src dst → has_one told ≡ false → None ≡ pair_value rows net ask src dst
-no_cost rows net ask src dst told is none =
-    let no_one : has_one (costs_of rows net ask.types src dst) ≡ false = ap has_one (sym is) ∙ none in rw no_one refl
-
--- nor has one of which the constraints don't hold
-pub not_held : (rows : Rows) (net : Name) (ask : CostAskData) (src dst : Name) (told tested : List (Option ℕ)) (alternatives : List (List Constraint))
-    → told ≡ costs_of rows net ask.types src dst → tested ≡ tested_costs rows net ask.tested src dst → alternatives ≡ ask.alternatives
-    → has_one told ≡ true → one_holds tested alternatives ≡ false → None ≡ pair_value rows net ask src dst
-not_held rows net ask src dst told tested alternatives is tests among some held =
-    let has : has_one (costs_of rows net ask.types src dst) ≡ true = ap has_one (sym is) ∙ some in
-    let no_way : one_holds (tested_costs rows net ask.tested src dst) ask.alternatives ≡ false = (λ i. one_holds (sym tests i) (sym among i)) ∙ held in
-    rw (has, no_way) refl
-
--- and else it has that of its costs
-pub value_shown : (rows : Rows) (net : Name) (ask : CostAskData) (src dst : Name) (multi : Bool) (told tested : List (Option ℕ)) (alternatives : List (List Constraint))
-    → multi ≡ ask.multi → told ≡ costs_of rows net ask.types src dst → tested ≡ tested_costs rows net ask.tested src dst → alternatives ≡ ask.alternatives
-    → has_one told ≡ true → one_holds tested alternatives ≡ true → Some (costs_data multi told) ≡ pair_value rows net ask src dst
-value_shown rows net ask src dst multi told tested alternatives form is tests among some held =
-    let has : has_one (costs_of rows net ask.types src dst) ≡ true = ap has_one (sym is) ∙ some in
-    let holds : one_holds (tested_costs rows net ask.tested src dst) ask.alternatives ≡ true = (λ i. one_holds (sym tests i) (sym among i)) ∙ held in
-    rw (has, holds) (λ i. Some (costs_data (form i) (is i)))
 
 -- ---- what is tried and what is shown
 
@@ -195,11 +165,3 @@ groups_shown rows net ask good =
     ∙ (at_source rows net ask q good
     ∙ (ap (λ b. cond b (Some (group_object (filtered_face rows net ask) q)) None) (sym (any_passing (λ src. is_picked ask.srcs src && has_name (dsts_shown rows net ask src)) q (pids_of rows net)))
     ∙ sym (found-named (group_object (filtered_face rows net ask)) (srcs_shown rows net ask) q))))))
-
--- the whole map
-pub map_shown : (rows : Rows) (net : Name) (ask : CostAskData) (meta groups : Data) → AreGood rows → meta ≡ filtered_meta rows net ask
-    → groups ≡ object_of (valued (group_value rows net ask) (srcs_tried rows net ask.srcs))
-    → object_of ((codes "meta", meta) ∷ (codes "cost-map", groups) ∷ []) ≡ filtered_costs rows net ask
-unfolding document
-map_shown rows net ask meta groups good is all =
-    λ i. object_of ((codes "meta", is i) ∷ (codes "cost-map", (all ∙ groups_shown rows net ask good) i) ∷ [])

@@ -5,3 +5,6 @@ pub mod ValuedLemmas
 pub mod HoldsLemmas
 pub mod PairLemmas
 pub mod FilterLemmas
+pub mod RunLemmas
+pub mod PairsLemmas
+pub mod TextLemmas

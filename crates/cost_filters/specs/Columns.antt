@@ -75,7 +75,3 @@ abbrev pub group_value : Rows → Name → CostAskData → Name → Option Data
 group_value rows net ask src =
     object_if_any
     (valued (pair_value rows net ask src) (dsts_tried rows net (columns_of rows net ask.types) ask.dsts src))
-
--- the groups that are shown
-abbrev pub groups_object : Rows → Name → CostAskData → Data
-groups_object rows net ask = object_of (valued (group_value rows net ask) (srcs_tried rows net ask.srcs))

@@ -1,14 +1,14 @@
 //! Asked cost types made ready for many pairs.
-ghost use Rattle.std.specs.Prelude.{◌≡◌, IfOk, map, option_copied, option_map};
+ghost use Rattle.std.specs.Prelude.{◌≡◌, IfOk, option_map};
 ghost use Rattle.alto_rows.specs.Good.{AreGood};
-ghost use Rattle.cost_docs.specs.CostMap.{cost_of, number_at};
-ghost use Rattle.cost_filters.specs.Columns.{column_cost, column_of, columns_of, reached, scale_of, scaled};
-ghost use Rattle.cost_filters.specs.Filter.{tested_costs};
+ghost use Rattle.cost_filters.specs.Columns.{column_of, columns_of, reached, scale_of, scaled};
+ghost use Rattle.cost_filters.specs.Names.{IsSetOf};
 ghost use Rattle.cost_docs.specs.CostMap as map_spec;
 
+use crate::names::distinct;
 use crate::types::CostType;
 use alto_names::{Metric, NetName, PidName};
-use alto_rows::{Key, RowStore, Span, Value, rows_in};
+use alto_rows::{Key, RowStore, Span, rows_in};
 use cost_docs::Ranks;
 use std::alloc::{AllocError, Global};
 
@@ -23,13 +23,13 @@ pub(crate) enum Scale {
 
 /// A cost type's metric, and how its costs are told.
 #[derive(Drop)]
-pub struct Column {
+pub(crate) struct Column {
     pub(crate) metric: Metric,
     pub(crate) scale: Scale,
 }
 
 /// Those of types. For each ordinal one, one walk over its metric's rows.
-pub fn columns_of<R: RowStore>(
+pub(crate) fn columns_of<R: RowStore>(
     alloc: Global,
     rows: &R,
     net: &NetName,
@@ -75,47 +75,28 @@ fn scale_of<R: RowStore>(
     Ok(Scale::Numerical)
 }
 
-/// The costs of a pair in these columns. One search for each.
-pub fn costs_in<R: RowStore>(
+/// The PIDs to which a source has a cost in one of these columns, in byte order. One search for each, and one walk over
+/// the source's rows in it; for several columns one sort.
+pub(crate) fn reached_once<R: RowStore>(
     alloc: Global,
     rows: &R,
     net: &NetName,
     columns: &[Column],
     src: &PidName,
-    dst: &PidName,
-) -> Result<Vec<Option<u64>>, AllocError>
-    ensures { IfOk result (λ costs. costs.items
-        ≡ map (column_cost (R.rows rows.now) net.now src.now dst.now) columns.now) }
+) -> Result<Vec<PidName>, AllocError>
+    requires { AreGood (R.rows rows.now) }
+    ensures { IfOk result (λ names. IsSetOf names.items (reached (R.rows rows.now) net.now columns.now src.now)) }
 {
-    let mut costs = Vec::with_capacity(alloc, columns.len())?;
-    for column in columns {
-        let cost = cost_of(rows, net, &column.metric, src, dst)?;
-        costs.push(scaled(&column.scale, cost))?;
+    let names = reached(alloc, rows, net, columns, src)?;
+    if columns.len() < 2 {
+        return Ok(names);
     }
-    Ok(costs)
-}
-
-/// The costs of a pair that constraints test. One search for each type.
-pub fn tested_costs<R: RowStore>(
-    alloc: Global,
-    rows: &R,
-    net: &NetName,
-    types: &[CostType],
-    src: &PidName,
-    dst: &PidName,
-) -> Result<Vec<Option<u64>>, AllocError>
-    ensures { IfOk result (λ costs. costs.items ≡ tested_costs (R.rows rows.now) net.now types.now src.now dst.now) }
-{
-    let mut costs = Vec::with_capacity(alloc, types.len())?;
-    for one in types {
-        costs.push(cost_of(rows, net, &one.metric, src, dst)?)?;
-    }
-    Ok(costs)
+    distinct(alloc, &names)
 }
 
 /// The PIDs to which a source has a cost in one of these columns, column by column. One search for each, and one walk
 /// over the source's rows in it.
-pub(crate) fn reached<R: RowStore>(
+fn reached<R: RowStore>(
     alloc: Global,
     rows: &R,
     net: &NetName,
@@ -154,31 +135,8 @@ fn destinations_of<R: RowStore>(
     Ok(names)
 }
 
-/// The cost of a pair. One search.
-fn cost_of<R: RowStore>(
-    rows: &R,
-    net: &NetName,
-    metric: &Metric,
-    src: &PidName,
-    dst: &PidName,
-) -> Result<Option<u64>, AllocError>
-    ensures { IfOk result (λ cost. cost ≡ cost_of (R.rows rows.now) net.now metric.now src.now dst.now) }
-{
-    let key = Key::Cost(net.clone()?, metric.clone()?, src.clone()?, dst.clone()?);
-    Ok(number_at(rows.get(&key)))
-}
-
-fn number_at(value: Option<&Value>) -> Option<u64>
-    ensures { result ≡ number_at (option_copied value.entry) }
-{
-    match value {
-        Some(Value::Num(number)) => Some(*number),
-        _ => None,
-    }
-}
-
 /// A cost as it is told.
-fn scaled(scale: &Scale, cost: Option<u64>) -> Option<u64>
+pub(crate) fn scaled(scale: &Scale, cost: Option<u64>) -> Option<u64>
     ensures { result ≡ option_map (scaled scale.now) cost }
 {
     match cost {

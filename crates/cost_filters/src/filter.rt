@@ -1,210 +1,248 @@
-ghost use Rattle.std.specs.Prelude.{◌≡◌, [], ◌∷◌, IfOk, codes, is_some, map, option_map};
+//! The filtered cost map as JSON text, written without a tree.
+ghost use Rattle.std.specs.Prelude.{◌≡◌, [], ◌∷◌, codes, IfOk, OnOk, is_some, option_map};
 ghost use Rattle.std.specs.List.{list_any};
-ghost use Rattle.json_tree.specs.Document.{object_of};
-ghost use Rattle.json_tree.specs.Tree.{data_of};
+ghost use Rattle.std.specs.Cmp.Lexicographic.{slice_cmp};
+ghost use Rattle.std.specs.List.Sorted.{IsStrictlySortedBy};
+ghost use Rattle.std.specs.Ordering.{nat_cmp};
+ghost use Rattle.serde_json.specs.Written.{compact_text};
+ghost use Rattle.json_tree.specs.Document.{members_of};
+ghost use Rattle.json_tree.specs.Tree.{members_in_order};
 ghost use Rattle.alto_rows.specs.Good.{AreGood};
-ghost use Rattle.cost_filters.specs.Columns.{columns_of, group_value, groups_object, object_if_any, pair_value, valued};
-ghost use Rattle.cost_filters.specs.Filter.{filtered_costs, filtered_meta};
-ghost use Rattle.cost_filters.specs.Holds.{one_holds};
-ghost use Rattle.net_docs.specs.NetworkMap as net_spec;
+ghost use Rattle.alto_maps.specs.Shape.{section_object};
+ghost use Rattle.alto_maps.specs.Writing.{AddsMember, AddsMembers, AddsValue};
+ghost use Rattle.net_docs.specs.NetworkMap.{dependent_tags};
+ghost use Rattle.cost_filters.specs.Columns.{object_if_any, valued};
+ghost use Rattle.cost_filters.specs.Filter.{costs_data, filtered_costs, filtered_face, filtered_meta};
+ghost use Rattle.cost_filters.specs.Filter.{types_data, types_name};
+ghost use Rattle.cost_filters.specs.Names.{AreSetIfAny};
+ghost use Rattle.cost_filters.specs.Pairs.{pair_shown};
+ghost use Rattle.cost_filters.specs.Text.{AddsIfAny, group_made, found_object, shown_members};
 
 use crate::ask::CostAsk;
-use crate::columns::{Column, columns_of, costs_in, reached, tested_costs};
-use crate::values::{costs_data, types_data, types_name};
+use crate::names::{names_given, srcs_of};
+use crate::pairs::{Costs, Pairs, found_at};
+use crate::types::CostType;
+use crate::writing::{write_costs, write_types};
 use alto_names::{NetName, PidName};
-use alto_rows::{Key, RowStore, Span, rows_in};
-use cost_rule::Constraint;
-use json_tree::{Members, Tree};
-use net_docs::{Pick, dependent_tags};
+use alto_rows::RowStore;
+use json::Writer;
+use net_docs::write_dependent_tags;
 use std::alloc::{AllocError, Global};
 
-/// The cost map of a network, cut to what is asked (RFC 7285, section 11.3.2.5; RFC 8189, section 4.1.3). For each
-/// ordinal type one walk over its metric. For each source that is asked for one search in each metric and one walk
-/// over its rows there, or none where destinations are asked for; then for each pair one search for each type that is
-/// asked for or tested.
-#[tactic(auto, unfolding(alto_maps::specs::Shape::document))]
-pub fn filter_cost<R: RowStore>(
+/// The text of the cost map of a network, cut to what is asked (RFC 7285, section 11.3.2.5; RFC 8189, section 4.1.3),
+/// with no space, written without a tree.
+///
+/// For each ordinal type one walk over its metric's rows and one sort of their costs. For each source that is asked for
+/// and each type that is asked for or tested one search for each run of the store in which rows of the asked
+/// destinations lie, and for each destination one comparison where the rows of the sources before lay alike, else one
+/// binary search in a run. Where all destinations are asked for, also one walk over the source's rows.
+pub fn filter_cost_text<R: RowStore>(
     alloc: Global,
     rows: &R,
     net: &NetName,
     ask: &CostAsk,
-) -> Result<Tree, AllocError>
+) -> Result<Vec<u8>, AllocError>
     requires { AreGood (R.rows rows.now) }
-    ensures { IfOk result (λ tree. data_of tree ≡ filtered_costs (R.rows rows.now) net.now ask.now) }
+    ensures { IfOk result (λ bytes. bytes.items ≡ compact_text (filtered_costs (R.rows rows.now) net.now ask.now)) }
 {
-    let meta = meta_of(alloc, rows, net, ask)?;
-    let groups = groups(alloc, rows, net, ask)?;
-    document_of(alloc, meta, groups)
+    let mut out = Writer::new(Vec::new(alloc));
+    write_map(alloc, rows, net, ask, &mut out)?;
+    Ok(out.into_inner())
 }
 
-/// The document with these two members.
-fn document_of(alloc: Global, meta: Tree, groups: Tree) -> Result<Tree, AllocError>
-    ensures { IfOk result (λ tree. data_of tree
-        ≡ object_of ((codes "meta", data_of meta) ∷ (codes "cost-map", data_of groups) ∷ [])) }
-{
-    let mut document = Members::new(alloc);
-    document.put(alloc, "meta", meta)?;
-    document.put(alloc, "cost-map", groups)?;
-    Ok(document.into_tree())
-}
-
-/// The meta: the cost types, and the version tag of the network map.
-fn meta_of<R: RowStore>(
+/// Writes the map.
+fn write_map<R: RowStore>(
     alloc: Global,
     rows: &R,
     net: &NetName,
     ask: &CostAsk,
-) -> Result<Tree, AllocError>
-    ensures { IfOk result (λ tree. data_of tree ≡ filtered_meta (R.rows rows.now) net.now ask.now) }
-{
-    let mut meta = Members::new(alloc);
-    let types = types_data(alloc, ask.multi, &ask.types)?;
-    meta.put(alloc, types_name(ask.multi), types)?;
-    let tags = dependent_tags(alloc, rows, net)?;
-    meta.put(alloc, "dependent-vtags", tags)?;
-    Ok(meta.into_tree())
-}
-
-/// The groups that are shown.
-fn groups<R: RowStore>(
-    alloc: Global,
-    rows: &R,
-    net: &NetName,
-    ask: &CostAsk,
-) -> Result<Tree, AllocError>
+    out: &mut Writer,
+) -> Result<(), AllocError>
     requires { AreGood (R.rows rows.now) }
-    ensures { IfOk result (λ tree. data_of tree ≡ groups_object (R.rows rows.now) net.now ask.now) }
+    ensures { OnOk result (AddsValue (filtered_costs (R.rows rows.now) net.now ask.now) out.old out.new) }
 {
-    let columns = columns_of(alloc, rows, net, &ask.types)?;
-    match &ask.srcs {
-        Pick::All => {
-            let srcs = pids_of(alloc, rows, net)?;
-            groups_among(alloc, rows, net, ask, &columns, &srcs)
-        }
-        Pick::Only(srcs) => groups_among(alloc, rows, net, ask, &columns, srcs.as_slice()),
-    }
+    out.begin_object()?;
+    write_section(alloc, rows, net, ask, out)?;
+    write_meta(alloc, rows, net, ask, out)?;
+    out.end_object()
 }
 
-/// The PIDs of a network. One walk over their rows.
-fn pids_of<R: RowStore>(alloc: Global, rows: &R, net: &NetName) -> Result<Vec<PidName>, AllocError>
-    ensures { IfOk result (λ pids. pids.items ≡ net_spec.pids_of (R.rows rows.now) net.now) }
-{
-    let mut pids = Vec::new(alloc);
-    for row in rows_in(rows, Span::Pids(net.clone()?)) {
-        if let Key::Pid(_, pid) = &row.0 {
-            pids.push(pid.clone()?)?;
-        }
-    }
-    Ok(pids)
-}
-
-/// The groups of those of these sources that have a pair.
-fn groups_among<R: RowStore>(
+/// Writes the meta with its name: the cost types, and the version tag of the network map.
+fn write_meta<R: RowStore>(
     alloc: Global,
     rows: &R,
     net: &NetName,
     ask: &CostAsk,
-    columns: &[Column],
+    out: &mut Writer,
+) -> Result<(), AllocError>
+    ensures { OnOk result (AddsMember (codes "meta")
+        (filtered_meta (R.rows rows.now) net.now ask.now) out.old out.new) }
+{
+    out.key("meta")?;
+    out.begin_object()?;
+    write_meta_members(alloc, rows, net, ask.multi, &ask.types, out)?;
+    out.end_object()
+}
+
+/// Writes the members of the meta, the one first whose name is less.
+fn write_meta_members<R: RowStore>(
+    alloc: Global,
+    rows: &R,
+    net: &NetName,
+    multi: bool,
+    types: &[CostType],
+    out: &mut Writer,
+) -> Result<(), AllocError>
+    ensures { OnOk result (AddsMembers (members_of ((types_name multi, types_data multi types.now)
+        ∷ (codes "dependent-vtags", dependent_tags (R.rows rows.now) net.now) ∷ [])) out.old out.new) }
+{
+    if multi {
+        write_dependent_tags(alloc, rows, net, out)?;
+        return write_types(multi, types, out);
+    }
+    write_types(multi, types, out)?;
+    write_dependent_tags(alloc, rows, net, out)
+}
+
+/// Writes the groups with their name.
+fn write_section<R: RowStore>(
+    alloc: Global,
+    rows: &R,
+    net: &NetName,
+    ask: &CostAsk,
+    out: &mut Writer,
+) -> Result<(), AllocError>
+    requires { AreGood (R.rows rows.now) }
+    ensures { OnOk result (AddsMember (codes "cost-map")
+        (section_object (filtered_face (R.rows rows.now) net.now ask.now)) out.old out.new) }
+{
+    let pairs = Pairs::new(alloc, rows, net, &ask.types, &ask.tested, &ask.alternatives)?;
+    let srcs = srcs_of(alloc, rows, net, &ask.srcs)?;
+    let given = names_given(alloc, &ask.dsts)?;
+    out.key("cost-map")?;
+    out.begin_object()?;
+    write_groups(alloc, &pairs, ask.multi, &srcs, &given, out)?;
+    out.end_object()
+}
+
+/// Writes the groups of those of these sources that have a pair.
+fn write_groups<R: RowStore>(
+    alloc: Global,
+    pairs: &Pairs<R>,
+    multi: bool,
     srcs: &[PidName],
-) -> Result<Tree, AllocError>
-    requires { columns.now ≡ columns_of (R.rows rows.now) net.now ask.now.types }
-    ensures { IfOk result (λ tree. data_of tree
-        ≡ object_of (valued (group_value (R.rows rows.now) net.now ask.now) srcs.now)) }
+    given: &Option<Vec<PidName>>,
+    out: &mut Writer,
+) -> Result<(), AllocError>
+    requires { AreSetIfAny (option_map (λ names. names.items) given.now) }
+    ensures { OnOk result (AddsMembers (members_in_order
+        (valued (group_made multi (option_map (λ names. names.items) given.now) pairs.now) srcs.now)) out.old out.new) }
 {
-    let mut groups = Members::new(alloc);
+    let mut gaps = Vec::new(alloc);
     for src in srcs {
-        if let Some(group) = group(alloc, rows, net, ask, columns, src)? {
-            groups.put(alloc, src.as_str(), group)?;
-        }
+        write_group(alloc, pairs, multi, src, given, &mut gaps, out)?;
     }
-    Ok(groups.into_tree())
+    Ok(())
 }
 
-/// The group of a source, if it has a pair.
-fn group<R: RowStore>(
+/// Writes the group of a source with its name, if it has a pair.
+fn write_group<R: RowStore>(
     alloc: Global,
-    rows: &R,
-    net: &NetName,
-    ask: &CostAsk,
-    columns: &[Column],
+    pairs: &Pairs<R>,
+    multi: bool,
     src: &PidName,
-) -> Result<Option<Tree>, AllocError>
-    requires { columns.now ≡ columns_of (R.rows rows.now) net.now ask.now.types }
-    ensures { IfOk result (λ group. option_map (λ tree. data_of tree) group
-        ≡ group_value (R.rows rows.now) net.now ask.now src.now) }
+    given: &Option<Vec<PidName>>,
+    gaps: &mut Vec<usize>,
+    out: &mut Writer,
+) -> Result<(), AllocError>
+    requires { AreSetIfAny (option_map (λ names. names.items) given.now) }
+    ensures { OnOk result (AddsIfAny src.now
+        (group_made multi (option_map (λ names. names.items) given.now) pairs.now src.now) out.old out.new) }
 {
-    match &ask.dsts {
-        Pick::All => {
-            let dsts = reached(alloc, rows, net, columns, src)?;
-            group_among(alloc, rows, net, ask, columns, src, &dsts)
+    match given {
+        Some(dsts) => write_among(alloc, pairs, multi, src, dsts, gaps, out),
+        None => {
+            let dsts = pairs.reached(alloc, src)?;
+            write_among(alloc, pairs, multi, src, &dsts, gaps, out)
         }
-        Pick::Only(dsts) => group_among(alloc, rows, net, ask, columns, src, dsts.as_slice()),
     }
 }
 
-/// The object of those of these destinations with which a source makes a pair, if there are any.
-fn group_among<R: RowStore>(
+/// Writes the group of a source among these destinations, if it has a pair.
+fn write_among<R: RowStore>(
     alloc: Global,
-    rows: &R,
-    net: &NetName,
-    ask: &CostAsk,
-    columns: &[Column],
+    pairs: &Pairs<R>,
+    multi: bool,
     src: &PidName,
     dsts: &[PidName],
-) -> Result<Option<Tree>, AllocError>
-    requires { columns.now ≡ columns_of (R.rows rows.now) net.now ask.now.types }
-    ensures { IfOk result (λ group. option_map (λ tree. data_of tree) group
-        ≡ object_if_any (valued (pair_value (R.rows rows.now) net.now ask.now src.now) dsts.now)) }
+    gaps: &mut Vec<usize>,
+    out: &mut Writer,
+) -> Result<(), AllocError>
+    requires { IsStrictlySortedBy (slice_cmp nat_cmp) dsts.now }
+    ensures { OnOk result (AddsIfAny src.now
+        (object_if_any (valued (pair_shown multi pairs.now src.now) dsts.now)) out.old out.new) }
 {
-    let mut group = Members::new(alloc);
-    let mut any = false;
-    for dst in dsts {
-        if let Some(value) = pair_value(alloc, rows, net, ask, columns, src, dst)? {
-            group.put(alloc, dst.as_str(), value)?;
-            any = true;
-        }
-    }
-    if any {
-        return Ok(Some(group.into_tree()));
-    }
-    Ok(None)
+    let found = pairs.from(alloc, src, dsts, gaps)?;
+    write_found(multi, src, dsts, &found, out)
 }
 
-/// The value of a pair, if it has a cost by an asked type and the constraints hold of it.
-fn pair_value<R: RowStore>(
-    alloc: Global,
-    rows: &R,
-    net: &NetName,
-    ask: &CostAsk,
-    columns: &[Column],
+/// Writes what was found of destinations with the name of their source, if it is anything.
+fn write_found(
+    multi: bool,
     src: &PidName,
+    dsts: &[PidName],
+    found: &[Option<Costs>],
+    out: &mut Writer,
+) -> Result<(), AllocError>
+    ensures { OnOk result (AddsIfAny src.now (found_object multi dsts.now found.now) out.old out.new) }
+{
+    if !has_pair(found) {
+        return Ok(());
+    }
+    out.key(src.as_str())?;
+    out.begin_object()?;
+    write_members(multi, dsts, found, out)?;
+    out.end_object()
+}
+
+/// Whether anything was found.
+fn has_pair(found: &[Option<Costs>]) -> bool
+    ensures { result ≡ list_any (λ pair. is_some pair) found.now }
+{
+    found.iter().any(|pair| pair.is_some())
+}
+
+/// Writes each of the destinations of which something was found.
+fn write_members(
+    multi: bool,
+    dsts: &[PidName],
+    found: &[Option<Costs>],
+    out: &mut Writer,
+) -> Result<(), AllocError>
+    ensures { OnOk result (AddsMembers
+        (members_in_order (shown_members multi dsts.now found.now)) out.old out.new) }
+{
+    for (at, dst) in dsts.iter().enumerate() {
+        write_member(multi, dst, found_at(found, at), out)?;
+    }
+    Ok(())
+}
+
+/// Writes a destination with its costs, if there are any.
+fn write_member(
+    multi: bool,
     dst: &PidName,
-) -> Result<Option<Tree>, AllocError>
-    requires { columns.now ≡ columns_of (R.rows rows.now) net.now ask.now.types }
-    ensures { IfOk result (λ value. option_map (λ tree. data_of tree) value
-        ≡ pair_value (R.rows rows.now) net.now ask.now src.now dst.now) }
+    costs: Option<&Costs>,
+    out: &mut Writer,
+) -> Result<(), AllocError>
+    ensures { OnOk result (AddsIfAny dst.now
+        (option_map (costs_data multi) (option_map (λ costs. costs.now) costs.entry)) out.old out.new) }
 {
-    let costs = costs_in(alloc, rows, net, columns, src, dst)?;
-    if !has_cost(&costs) {
-        return Ok(None);
+    match costs {
+        Some(costs) => {
+            out.key(dst.as_str())?;
+            write_costs(multi, costs.as_slice(), out)
+        }
+        None => Ok(()),
     }
-    let tested = tested_costs(alloc, rows, net, &ask.tested, src, dst)?;
-    if !one_holds(&ask.alternatives, &tested) {
-        return Ok(None);
-    }
-    Ok(Some(costs_data(alloc, ask.multi, &costs)?))
-}
-
-/// Whether there is a cost.
-pub fn has_cost(costs: &[Option<u64>]) -> bool
-    ensures { result ≡ list_any (λ cost. is_some cost) costs.now }
-{
-    costs.iter().any(|cost| cost.is_some())
-}
-
-/// Whether all constraints of one of the lists hold of a pair with these costs.
-pub fn one_holds(alternatives: &[Vec<Constraint>], costs: &[Option<u64>]) -> bool
-    ensures { result ≡ one_holds costs.now (map (λ constraints. constraints.items) alternatives.now) }
-{
-    cost_rule::one_holds(alternatives, costs)
 }

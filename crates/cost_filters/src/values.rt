@@ -88,7 +88,7 @@ fn type_data(alloc: Global, one: &CostType) -> Result<Tree, AllocError>
     Ok(members.into_tree())
 }
 
-fn mode_of(one: &CostType) -> &'static str
+pub(crate) fn mode_of(one: &CostType) -> &'static str
     ensures { result.now ≡ mode_of one.now }
 {
     if one.ordinal { "ordinal" } else { "numerical" }

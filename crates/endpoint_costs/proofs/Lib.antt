@@ -1,2 +1,3 @@
 pub mod ReadingLemmas
 pub mod OnceLemmas
+pub mod FoundLemmas

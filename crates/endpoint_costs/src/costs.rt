@@ -1,21 +1,24 @@
-ghost use Rattle.std.specs.Prelude.{◌≡◌, [], ◌∷◌, IfOk, codes, option_map};
+ghost use Rattle.std.specs.Prelude.{◌≡◌, [], ◌∷◌, IfOk, codes, map, option_map};
+ghost use Rattle.std.specs.Cmp.Lexicographic.{slice_cmp};
 ghost use Rattle.std.specs.List.{filter_map};
+ghost use Rattle.std.specs.List.Sorted.{IsStrictlySortedBy};
+ghost use Rattle.std.specs.Ordering.{nat_cmp};
 ghost use Rattle.json_tree.specs.Document.{object_of};
 ghost use Rattle.json_tree.specs.Tree.{data_of};
 ghost use Rattle.alto_rows.specs.Good.{AreGood};
 ghost use Rattle.alto_rows.specs.Prefixes.{prefixes_in};
-ghost use Rattle.cost_filters.specs.Columns.{columns_of, object_if_any, pair_value};
-ghost use Rattle.endpoint_costs.specs.Costs.{endpoint_costs, endpoint_meta, pair_of, pairs_object, pid_ask};
+ghost use Rattle.cost_filters.specs.Columns.{object_if_any};
+ghost use Rattle.cost_filters.specs.Pairs.{pair_costs};
+ghost use Rattle.endpoint_costs.specs.Costs.{endpoint_costs, endpoint_meta, pairs_object};
+ghost use Rattle.endpoint_costs.specs.Found.{group_found, member_found};
 
 use crate::ask::EndAsk;
 use crate::endpoint::{Endpoint, endpoints_at};
+use crate::places::{costs_of, pids_of, row_of};
 use alto_addr::Addr;
 use alto_names::{NetName, PidName};
 use alto_rows::RowStore;
-use cost_filters::{
-    Column, columns_of, costs_data, costs_in, has_cost, one_holds, tested_costs, types_data,
-    types_name,
-};
+use cost_filters::{Costs, Pairs, costs_data, types_data, types_name};
 use json_tree::{Members, Tree};
 use pid_prefix::RangeTable;
 use std::alloc::{AllocError, Global};
@@ -23,8 +26,11 @@ use std::alloc::{AllocError, Global};
 /// The costs between the addresses that are asked for (RFC 7285, section 11.5.1.6; RFC 8189, section 4.2.3), by the
 /// network's prefixes, for a client at this address, if it is known.
 ///
-/// For each ordinal type one walk over its metric. For each address one look-up in the table. Then for each pair of
-/// endpoints one search for each type that is asked for or tested.
+/// For each ordinal type one walk over its metric. For each address one look-up in the table. Then the distinct PIDs
+/// make their pairs once: for each of the sources and each type that is asked for or tested one search for each run of
+/// the store in which rows of the destinations lie, and for each destination one comparison where the rows of the
+/// sources before lay alike, else one binary search in a run. For each pair of endpoints what was made for their PIDs
+/// is looked up among these.
 pub fn endpoint_cost<R: RowStore>(
     alloc: Global,
     rows: &R,
@@ -76,35 +82,78 @@ fn pairs_object<R: RowStore>(
     requires { AreGood (R.rows rows.now) }
     ensures { IfOk result (λ tree. data_of tree ≡ pairs_object (R.rows rows.now) net.now ask.now srcs.now dsts.now) }
 {
-    let columns = columns_of(alloc, rows, net, &ask.types)?;
+    let pairs = Pairs::new(alloc, rows, net, &ask.types, &ask.tested, &ask.alternatives)?;
+    let from = pids_of(alloc, srcs)?;
+    let to = pids_of(alloc, dsts)?;
+    let found = found_between(alloc, &pairs, &from, &to)?;
+    groups(alloc, ask.multi, srcs, dsts, &from, &to, &found)
+}
+
+/// The pairs of PIDs, source by source.
+fn found_between<R: RowStore>(
+    alloc: Global,
+    pairs: &Pairs<R>,
+    from: &[PidName],
+    to: &[PidName],
+) -> Result<Vec<Vec<Option<Costs>>>, AllocError>
+    requires { IsStrictlySortedBy (slice_cmp nat_cmp) to.now }
+    ensures { IfOk result (λ found. map (λ row. row.items) found.items
+        ≡ map (λ src. map (pair_costs pairs.now src) to.now) from.now) }
+{
+    let mut found = Vec::with_capacity(alloc, from.len())?;
+    let mut gaps = Vec::new(alloc);
+    for src in from {
+        found.push(pairs.from(alloc, src, to, &mut gaps)?)?;
+    }
+    Ok(found)
+}
+
+/// The groups of those sources that have a pair, by what was found between PIDs.
+fn groups(
+    alloc: Global,
+    multi: bool,
+    srcs: &[Endpoint],
+    dsts: &[Endpoint],
+    from: &[PidName],
+    to: &[PidName],
+    found: &[Vec<Option<Costs>>],
+) -> Result<Tree, AllocError>
+    requires from { IsStrictlySortedBy (slice_cmp nat_cmp) from.now }
+    requires to { IsStrictlySortedBy (slice_cmp nat_cmp) to.now }
+    ensures { IfOk result (λ tree. data_of tree ≡ object_of (filter_map
+        (group_found multi dsts.now from.now to.now (map (λ row. row.items) found.now)) srcs.now)) }
+{
     let mut groups = Members::new(alloc);
     for src in srcs {
-        if let Some(group) = group(alloc, rows, net, ask, &columns, src, dsts)? {
+        let row = row_of(from, found, &src.pid);
+        if let Some(group) = group(alloc, multi, dsts, to, row)? {
             groups.put(alloc, src.text.as_str(), group)?;
         }
     }
     Ok(groups.into_tree())
 }
 
-/// The object of a source's pairs, if there are any.
-fn group<R: RowStore>(
+/// The object of a source's pairs, if there are any, by what was found of the PIDs of destinations.
+fn group(
     alloc: Global,
-    rows: &R,
-    net: &NetName,
-    ask: &EndAsk,
-    columns: &[Column],
-    src: &Endpoint,
+    multi: bool,
     dsts: &[Endpoint],
+    to: &[PidName],
+    row: &[Option<Costs>],
 ) -> Result<Option<Tree>, AllocError>
-    requires { columns.now ≡ columns_of (R.rows rows.now) net.now ask.now.types }
+    requires { IsStrictlySortedBy (slice_cmp nat_cmp) to.now }
     ensures { IfOk result (λ group. option_map (λ tree. data_of tree) group
-        ≡ object_if_any (filter_map (pair_of (R.rows rows.now) net.now ask.now src.now) dsts.now)) }
+        ≡ object_if_any (filter_map (member_found multi to.now row.now) dsts.now)) }
 {
     let mut group = Members::new(alloc);
     let mut any = false;
     for dst in dsts {
-        if let Some(value) = pair_value(alloc, rows, net, ask, columns, &src.pid, &dst.pid)? {
-            group.put(alloc, dst.text.as_str(), value)?;
+        if let Some(costs) = costs_of(to, row, &dst.pid) {
+            group.put(
+                alloc,
+                dst.text.as_str(),
+                costs_data(alloc, multi, costs.as_slice())?,
+            )?;
             any = true;
         }
     }
@@ -112,29 +161,4 @@ fn group<R: RowStore>(
         return Ok(Some(group.into_tree()));
     }
     Ok(None)
-}
-
-/// The value of a pair of PIDs, if it has a cost by an asked type and the constraints hold of it.
-fn pair_value<R: RowStore>(
-    alloc: Global,
-    rows: &R,
-    net: &NetName,
-    ask: &EndAsk,
-    columns: &[Column],
-    src: &PidName,
-    dst: &PidName,
-) -> Result<Option<Tree>, AllocError>
-    requires { columns.now ≡ columns_of (R.rows rows.now) net.now ask.now.types }
-    ensures { IfOk result (λ value. option_map (λ tree. data_of tree) value
-        ≡ pair_value (R.rows rows.now) net.now (pid_ask ask.now) src.now dst.now) }
-{
-    let costs = costs_in(alloc, rows, net, columns, src, dst)?;
-    if !has_cost(&costs) {
-        return Ok(None);
-    }
-    let tested = tested_costs(alloc, rows, net, &ask.tested, src, dst)?;
-    if !one_holds(&ask.alternatives, &tested) {
-        return Ok(None);
-    }
-    Ok(Some(costs_data(alloc, ask.multi, &costs)?))
 }

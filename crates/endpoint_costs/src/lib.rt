@@ -15,6 +15,7 @@ mod ask;
 mod costs;
 mod endpoint;
 mod laws;
+mod places;
 
 pub use ask::{EndAsk, read_end_ask};
 pub use costs::endpoint_cost;

@@ -1,0 +1,17 @@
+use Rattle.std.proofs.Common.{◌≡◌, ◌∙◌, ap, subst}
+use Rattle.std.proofs.lemmas.Result.{on_ok_weaker}
+use Rattle.cost_filters.specs.Columns.{object_if_any, valued}
+use Rattle.cost_filters.specs.Pairs.{pair_costs, pair_shown}
+use Rattle.cost_filters.specs.Text.{AddsIfAny, found_object}
+use Rattle.cost_filters.proofs.TextLemmas.{object_found}
+use Rattle.cost_filters.proofs.filter.write_among.Goals as goal
+
+pub returns : goal.returns
+returns g c =
+    let pairs = c.args.pairs.now in
+    let src = c.args.src.now in
+    let dsts = c.args.dsts.now in
+    let multi = c.args.multi in
+    let object : found_object multi dsts c.deref.result.now ≡ object_if_any (valued (pair_shown multi pairs src) dsts) =
+    ap (found_object multi dsts) (c.deref.ensures.value ∙ c.in_ok-found.ensures) ∙ object_found (pair_costs pairs src) multi dsts c.requires in
+    on_ok_weaker c.write_found.result (subst (λ value. AddsIfAny src value c.args.out.now c.write_found.new.out) object) c.write_found.ensures

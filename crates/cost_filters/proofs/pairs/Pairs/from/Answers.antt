@@ -1,0 +1,28 @@
+-- The pairs at the places of the costs are those of the destinations.
+use Rattle.std.proofs.Common.{◌∙◌, ap, map}
+use Rattle.std.proofs.lemmas.Result.{IfOk-weaker}
+use Rattle.std.specs.Prelude.{List}
+use Rattle.cost_filters.specs.declared.columns.Column.{Column}
+use Rattle.cost_filters.specs.Pairs.{PairsData, pair_costs, told_from}
+use Rattle.cost_filters.proofs.PairsLemmas.{all_pairs}
+use Rattle.cost_filters.proofs.pairs.Pairs.from.Goals as goal
+
+pub returns : goal.returns
+returns g c =
+    let rows = g.R.RowStore.rows c.self.inside.rows.now in
+    let inside : PairsData = record {
+      rows = rows;
+      net = c.self.inside.net.now;
+      types = c.self.inside.types.now;
+      tested = c.self.inside.tested.now;
+      alternatives = map (λ constraints. constraints.items) c.self.inside.alternatives.now;
+    } in
+    let src = c.args.src.now in
+    let dsts = c.args.dsts.now in
+    IfOk-weaker c.all_shown.result _ _
+    (λ pairs is.
+    is
+    ∙ (all_pairs inside src dsts c.self.inside.columns.items c.in_ok-told.told c.in_ok-tested.tested c.self.invariant.1
+    (c.in_ok-told.ensures ∙ ap (λ (columns : List Column). told_from rows c.self.inside.net.now columns src dsts) c.deref.ensures.value) c.in_ok-tested.ensures
+    ∙ ap (λ (asked : PairsData). map (pair_costs asked src) dsts) c.self.view_is))
+    c.all_shown.ensures

@@ -1,0 +1,166 @@
+//! Costs by column, each column with one for each destination.
+ghost use Rattle.std.specs.Prelude.{◌≡◌, ◌++◌, [], ◌∷◌, IfOk, OnOk, map, option_map};
+ghost use Rattle.std.specs.Cmp.Lexicographic.{slice_cmp};
+ghost use Rattle.std.specs.List.Sorted.{IsStrictlySortedBy};
+ghost use Rattle.std.specs.Ordering.{nat_cmp};
+ghost use Rattle.alto_rows.specs.Rows.{AreSorted};
+ghost use Rattle.cost_filters.specs.Columns.{column_cost, scaled};
+ghost use Rattle.cost_filters.specs.Pairs.{costs_at, if_there, told_from, tested_from};
+ghost use Rattle.std.specs.Prelude.{slice_get};
+
+use crate::columns::{Column, Scale, scaled};
+use crate::origin::Origin;
+use crate::types::CostType;
+use alto_names::{NetName, PidName};
+use alto_rows::RowStore;
+use std::alloc::{AllocError, Global};
+use std::marker::Model;
+
+/// Columns of costs. A contract sees them as lists.
+#[derive(Drop)]
+pub(crate) struct Table {
+    columns: Vec<Vec<Option<u64>>>,
+}
+
+impl Model for Table {
+    ghost use Rattle.std.specs.Prelude.{ℕ, List, Option, map};
+
+    ghost Value = { List (List (Option ℕ)) };
+
+    ghost view = { λ table. map (λ column. column.items) table.columns.items };
+}
+
+impl Table {
+    /// No column. Takes no memory.
+    pub(crate) fn new(alloc: Global) -> Table
+        ensures { result ≡ [] }
+    {
+        Table {
+            columns: Vec::new(alloc),
+        }
+    }
+
+    /// Adds a column.
+    fn push(&mut self, column: Vec<Option<u64>>) -> Result<(), AllocError>
+        ensures { OnOk result (self.new ≡ self.old ++ column.items ∷ []) }
+    {
+        self.columns.push(column)?;
+        Ok(())
+    }
+
+    /// The costs at a place of the columns.
+    pub(crate) fn costs_at(&self, alloc: Global, at: usize) -> Result<Vec<Option<u64>>, AllocError>
+        ensures { IfOk result (λ costs. costs.items ≡ costs_at at self.now) }
+    {
+        costs_at(alloc, &self.columns, at)
+    }
+}
+
+fn costs_at(
+    alloc: Global,
+    columns: &[Vec<Option<u64>>],
+    at: usize,
+) -> Result<Vec<Option<u64>>, AllocError>
+    ensures { IfOk result (λ costs. costs.items ≡ costs_at at (map (λ column. column.items) columns.now)) }
+{
+    let mut costs = Vec::with_capacity(alloc, columns.len())?;
+    for column in columns {
+        costs.push(cost_at(column, at))?;
+    }
+    Ok(costs)
+}
+
+fn cost_at(column: &[Option<u64>], at: usize) -> Option<u64>
+    ensures { result ≡ if_there (slice_get column.now at) }
+{
+    *column.get(at)?
+}
+
+/// The costs of columns from a source to destinations in byte order.
+pub(crate) fn told_from<R: RowStore>(
+    alloc: Global,
+    rows: &R,
+    net: &NetName,
+    columns: &[Column],
+    src: &PidName,
+    dsts: &[PidName],
+    gaps: &mut Vec<usize>,
+) -> Result<Table, AllocError>
+    requires sorted { AreSorted (R.rows rows.now) }
+    requires rise { IsStrictlySortedBy (slice_cmp nat_cmp) dsts.now }
+    ensures { IfOk result (λ table. table ≡ told_from (R.rows rows.now) net.now columns.now src.now dsts.now) }
+{
+    let mut table = Table::new(alloc);
+    for column in columns {
+        table.push(column_from(alloc, rows, net, column, src, dsts, gaps)?)?;
+    }
+    Ok(table)
+}
+
+/// Those of one column.
+fn column_from<R: RowStore>(
+    alloc: Global,
+    rows: &R,
+    net: &NetName,
+    column: &Column,
+    src: &PidName,
+    dsts: &[PidName],
+    gaps: &mut Vec<usize>,
+) -> Result<Vec<Option<u64>>, AllocError>
+    requires sorted { AreSorted (R.rows rows.now) }
+    requires rise { IsStrictlySortedBy (slice_cmp nat_cmp) dsts.now }
+    ensures { IfOk result (λ costs. costs.items
+        ≡ map (λ dst. column_cost (R.rows rows.now) net.now src.now dst column.now) dsts.now) }
+{
+    let costs = Origin::new(net, &column.metric, src).costs_to(alloc, rows, dsts, gaps)?;
+    scaled_all(alloc, &column.scale, costs)
+}
+
+/// Costs as they are told.
+fn scaled_all(
+    alloc: Global,
+    scale: &Scale,
+    costs: Vec<Option<u64>>,
+) -> Result<Vec<Option<u64>>, AllocError>
+    ensures { IfOk result (λ all. all.items ≡ map (option_map (scaled scale.now)) costs.items) }
+{
+    match scale {
+        Scale::Numerical => Ok(costs),
+        Scale::Ordinal(_) => each_scaled(alloc, scale, &costs),
+    }
+}
+
+fn each_scaled(
+    alloc: Global,
+    scale: &Scale,
+    costs: &[Option<u64>],
+) -> Result<Vec<Option<u64>>, AllocError>
+    ensures { IfOk result (λ all. all.items ≡ map (option_map (scaled scale.now)) costs.now) }
+{
+    let mut all = Vec::with_capacity(alloc, costs.len())?;
+    for cost in costs {
+        all.push(scaled(scale, *cost))?;
+    }
+    Ok(all)
+}
+
+/// The costs by the metrics of types that constraints test.
+pub(crate) fn tested_from<R: RowStore>(
+    alloc: Global,
+    rows: &R,
+    net: &NetName,
+    types: &[CostType],
+    src: &PidName,
+    dsts: &[PidName],
+    gaps: &mut Vec<usize>,
+) -> Result<Table, AllocError>
+    requires sorted { AreSorted (R.rows rows.now) }
+    requires rise { IsStrictlySortedBy (slice_cmp nat_cmp) dsts.now }
+    ensures { IfOk result (λ table. table ≡ tested_from (R.rows rows.now) net.now types.now src.now dsts.now) }
+{
+    let mut table = Table::new(alloc);
+    for one in types {
+        table.push(Origin::new(net, &one.metric, src).costs_to(alloc, rows, dsts, gaps)?)?;
+    }
+    Ok(table)
+}

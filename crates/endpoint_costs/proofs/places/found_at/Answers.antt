@@ -1,0 +1,16 @@
+-- The search hits the name's place, or the name isn't there.
+use Rattle.std.proofs.Common.{◌≡◌, ◌∙◌, get_or}
+use Rattle.json_tree.proofs.Lookups.{one_name}
+use Rattle.endpoint_costs.proofs.FoundLemmas.{item_is, nothing_found, one_found}
+use Rattle.endpoint_costs.proofs.places.found_at.Goals as goal
+
+pub returns-in-Ok : goal.returns-in-Ok
+returns-in-Ok g c =
+    let names = c.args.names.now in
+    let name = c.args.name.now in
+    let at = c.in-Ok.at in
+    let is : get_or names at name ≡ name = one_name (get_or names at name) name (c.in-Ok.ensures.ok name) in
+    item_is c.args.found.now at c.get.result c.get.ensures.lookup ∙ one_found names c.args.found.now name at c.requires c.in-Ok.ensures.bound is
+
+pub returns-in-Err : goal.returns-in-Err
+returns-in-Err g c = nothing_found c.args.names.now c.args.found.now c.args.name.now c.in-Err.field-0 c.requires c.in-Err.ensures.position
