@@ -1,5 +1,5 @@
 mod ConnectionLemmas
-mod EventLemmas
+pub mod EventLemmas
 mod SoloLemmas
 mod StepLemmas
 mod TurnLemmas

@@ -1,5 +1,5 @@
 -- The office over one desk.
-use Rattle.std.proofs.Common.{◌≡◌, ◌≢◌, ℕ, true, [], ◌∷◌, Result, Ok, Err, IfOk, IfErr, OnOk, OnErr, refl, sym, ◌∙◌, ap, inl, inr, All, arith}
+use Rattle.std.proofs.Common.{◌≡◌, ◌≢◌, ℕ, true, [], ◌∷◌, None, Result, Ok, Err, IfOk, IfErr, OnOk, OnErr, refl, sym, ◌∙◌, ap, inl, inr, All, arith}
 use Rattle.alto_edits.specs.Edits.{IsEdit}
 use Rattle.alto_book.specs.Acceptance.{accept}
 use Rattle.alto_book.specs.Book.{Book}
@@ -16,7 +16,7 @@ use Rattle.alto_serve.specs.Events.{looked, entered, submitted, waited, Known, I
 
 abbrev pub solo_known : Book → ℕ → ℕ → ℕ → Known
 solo_known book looks waits faults =
-    record { seen = book; looks = looks; waits = waits; faults = faults; numbers = []; waited = [] }
+    record { seen = book; looks = looks; waits = waits; faults = faults; numbers = []; waited = None }
 
 -- nobody else changes the book
 look_same : (book look : Book) → IsLegal book → look ≡ book → IsLook true book look

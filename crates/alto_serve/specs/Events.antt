@@ -1,5 +1,6 @@
 -- What happens while a connection is served, event by event, and what is known of an office after each.
-use Rattle.std.specs.Prelude.{◌≡◌, ◌⊎◌, ◌<◌, ℕ, zero, suc, Bool, true, false, List, [], ◌∷◌, ◌++◌, fold, Result, Err, All}
+use Rattle.std.specs.Prelude.{◌≡◌, ◌⊎◌, ◌<◌, ℕ, zero, suc, Bool, true, false, List, [], ◌∷◌, ◌++◌, fold, Option, None, Result, Err, All}
+use Rattle.std.specs.Option.{option_map}
 use Rattle.alto_book.specs.Acceptance.{accept}
 use Rattle.alto_edits.specs.Edits.{IsEdit}
 use Rattle.alto_book.specs.Book.{Book, number_of}
@@ -20,18 +21,19 @@ pub data Event : Type 0 where
   wrote : List ℕ → Event
 
 -- what is known of an office: the book that was seen last, how often it was looked and waited, how many faults of
--- records were counted, and the numbers of the books that were looked at and of those that were waited past
+-- records were counted, the numbers of the books that were looked at, and the numbers that were waited past, where the
+-- office tells them
 pub record Known : Type 0 where
   pub seen : Book
   pub looks : ℕ
   pub waits : ℕ
   pub faults : ℕ
   pub numbers : List ℕ
-  pub waited : List ℕ
+  pub waited : Option (List ℕ)
 
 -- what is known of an office at first
 abbrev pub at_first : Book → Known
-at_first book = record { seen = book; looks = 0; waits = 0; faults = 0; numbers = []; waited = [] }
+at_first book = record { seen = book; looks = 0; waits = 0; faults = 0; numbers = []; waited = None }
 
 -- a count after `times` more
 abbrev pub risen : ℕ → ℕ → ℕ
@@ -50,7 +52,8 @@ known_after alone known (looked book) =
 known_after alone known (entered book) = record known { seen = book; looks = one_more known.looks }
 known_after alone known (submitted import moment faults answer book) =
     record known { seen = book; faults = risen known.faults faults }
-known_after alone known (waited n) = record known { waits = one_more known.waits; waited = listed alone known.waited n }
+known_after alone known (waited n) =
+    record known { waits = one_more known.waits; waited = option_map (λ numbers. numbers ++ n ∷ []) known.waited }
 known_after alone known (wrote bytes) = known
 
 -- a book after an import with a timestamp, whether it is accepted or refused

@@ -13,6 +13,7 @@ mod end;
 mod office;
 mod refuse;
 mod serve;
+mod served;
 mod solo;
 mod turns;
 
@@ -22,4 +23,5 @@ pub use clock::{Clock, FixedClock};
 pub use end::End;
 pub use office::{Looks, Office};
 pub use serve::serve_conn;
+pub use served::{Served, serve_link};
 pub use solo::Solo;

@@ -23,13 +23,17 @@ pub trait Looks {
     /// What it keeps of its records stands for the book that was seen last. No call ends this.
     ghost is_backed: { Self → Type 0 };
 
+    /// Nothing has put in doubt what it keeps of its records. What did so lasts. Unless an office says more, nothing does.
+    ghost is_clean: { Self → Type 0 } = { λ _. Unit {0} };
+
     /// Looks: gives the version of a book that is seen from then on. Out of memory, it has looked or not.
     fn front(&mut self, alloc: Global) -> Result<Arc<Front<Self::Rows>>, AllocError>
         ensures stands { IfOk result (λ front. StandsFor (arc_value front) (known self.new).seen) }
         ensures looks { OnOk result (Emits alone (OneLook (known self.new).seen) (known self.old) (known self.new)) }
         ensures lost { OnErr result
             (Emits alone (PrefixOf (OneLook (known self.new).seen)) (known self.old) (known self.new)) }
-        ensures backed { is_backed self.old → is_backed self.new };
+        ensures backed { is_backed self.old → is_backed self.new }
+        ensures clean { is_clean self.new → is_clean self.old };
 }
 
 /// What a connection is served through: it looks at versions, has imports accepted, and waits for the next version.
@@ -45,10 +49,12 @@ pub trait Office: Looks {
             → Emits Self.alone (PrefixOf (IsSubmitted command moment)) (Self.known self.old) (Self.known self.new) }
         ensures stays { result ≡ Err EditFault.Memory
             → IsLook Self.alone (Self.known self.old).seen (Self.known self.new).seen }
-        ensures backed { Self.is_backed self.old → Self.is_backed self.new };
+        ensures backed { Self.is_backed self.old → Self.is_backed self.new }
+        ensures clean { Self.is_clean self.new → Self.is_clean self.old };
 
     /// Waits until there may be more batches than this number. It may end at any time.
     fn wait(&mut self, known: u64)
         ensures waited { Emits Self.alone (OneWait known) (Self.known self.old) (Self.known self.new) }
-        ensures backed { Self.is_backed self.old → Self.is_backed self.new };
+        ensures backed { Self.is_backed self.old → Self.is_backed self.new }
+        ensures clean { Self.is_clean self.new → Self.is_clean self.old };
 }

@@ -22,8 +22,9 @@ use std::alloc::Global;
 const MOST_REQUESTS: u32 = 1_000_000;
 
 /// Serves a connection to its end: reads requests, answers each at the version that the office has then, and writes the
-/// replies. The client's address is `peer`, where it is known. The next edge is waited for, `turns` times at most. How it ended tells what became of the requests that
-/// its bytes are, what was written, and how often the office was looked at and waited.
+/// replies. The client's address is `peer`, where it is known. The next edge is waited for, `turns` times at most. How it
+/// ended tells what became of the requests that its bytes are, what was written, and how often the office was looked at
+/// and waited.
 pub fn serve_conn<F: Office, L: Link, C: Clock>(
     alloc: Global,
     office: &mut F,
@@ -43,6 +44,7 @@ pub fn serve_conn<F: Office, L: Link, C: Clock>(
     ensures writes { L.failed_writes link.new ≡ writes_at result (L.failed_writes link.old) }
     ensures book { IsGrown (F.known office.new).seen (F.known office.old).seen }
     ensures backed { F.is_backed office.old → F.is_backed office.new }
+    ensures clean { F.is_clean office.new → F.is_clean office.old }
 {
     let Ok(routes) = Routes::new(alloc, side) else {
         return End::Memory;
@@ -82,6 +84,7 @@ fn serve_next<F: Office, L: Link, C: Clock>(
     ensures writes { L.failed_writes link.new ≡ writes_so_far result (L.failed_writes link.old) }
     ensures book { IsGrown (F.known office.new).seen (F.known office.old).seen }
     ensures backed { F.is_backed office.old → F.is_backed office.new }
+    ensures clean { F.is_clean office.new → F.is_clean office.old }
 {
     match read_request(alloc, intake, link) {
         Ok(Some(request)) => respond(alloc, client, office, link, clock, &request, turns),
@@ -116,6 +119,7 @@ fn respond<F: Office, L: Link, C: Clock>(
     ensures writes { L.failed_writes link.new ≡ writes_so_far result (L.failed_writes link.old) }
     ensures book { IsGrown (F.known office.new).seen (F.known office.old).seen }
     ensures backed { F.is_backed office.old → F.is_backed office.new }
+    ensures clean { F.is_clean office.new → F.is_clean office.old }
 {
     let Ok(bytes) = answered(alloc, client, office, clock, request, turns) else {
         return Some(out_of_memory(link));

@@ -47,7 +47,7 @@ impl<K: Keeper + Drop, R: RowStore> Solo<K, R> {
 }
 
 impl<K: Keeper + Drop, R: RowStore> Looks for Solo<K, R> {
-    ghost use Rattle.std.specs.Prelude.{true, []};
+    ghost use Rattle.std.specs.Prelude.{true, [], None};
     ghost use Rattle.alto_desk.specs.Records.{Backs};
 
     type Rows = R;
@@ -60,11 +60,13 @@ impl<K: Keeper + Drop, R: RowStore> Looks for Solo<K, R> {
       waits = solo.waits;
       faults = solo.tally.count;
       numbers = [];
-      waited = [];
+      waited = None;
     } };
 
     ghost is_backed = { λ solo.
         K.is_clean solo.desk.keeper → Backs (K.holds solo.desk.keeper) solo.desk.ledger.book };
+
+    ghost is_clean = { λ solo. K.is_clean solo.desk.keeper };
 
     fn front(&mut self, _alloc: Global) -> Result<Arc<Front<R>>, AllocError> {
         let front = Arc::try_clone(self.desk.front())?;

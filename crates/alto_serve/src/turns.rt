@@ -40,6 +40,7 @@ pub(crate) fn answered<F: Office, C: Clock>(
         (IsCutOff (setting_of client.now (C.tells clock.now) F.alone turns) request.now)
         (F.known office.old) (F.known office.new)) }
     ensures backed { F.is_backed office.old → F.is_backed office.new }
+    ensures clean { F.is_clean office.new → F.is_clean office.old }
 {
     let reply = take_turn(alloc, client, office, clock, request, turns)?;
     reply_bytes(alloc, &reply, request.close)
@@ -62,6 +63,7 @@ fn take_turn<F: Office, C: Clock>(
         (IsCutOff (setting_of client.now (C.tells clock.now) F.alone turns) request.now)
         (F.known office.old) (F.known office.new)) }
     ensures backed { F.is_backed office.old → F.is_backed office.new }
+    ensures clean { F.is_clean office.new → F.is_clean office.old }
 {
     let answer = settled(alloc, client, office, request, turns)?;
     conclude(alloc, office, clock, answer)
@@ -83,6 +85,7 @@ fn settled<F: Office>(
     ensures err { OnErr result (Emits F.alone (PrefixOf (IsWaiting client.now request.now turns))
         (F.known office.old) (F.known office.new)) }
     ensures backed { F.is_backed office.old → F.is_backed office.new }
+    ensures clean { F.is_clean office.new → F.is_clean office.old }
 {
     let mut look = look_at(alloc, client, office, request)?;
     for _turn in 0..turns {
@@ -118,6 +121,7 @@ fn look_at<F: Office>(
     ensures err { OnErr result (Emits F.alone (PrefixOf (OneLook (F.known office.new).seen))
         (F.known office.old) (F.known office.new)) }
     ensures backed { F.is_backed office.old → F.is_backed office.new }
+    ensures clean { F.is_clean office.new → F.is_clean office.old }
 {
     let front = office.front(alloc)?;
     let answer = answer(alloc, client, request, &*front)?;
@@ -142,6 +146,7 @@ fn conclude<F: Office, C: Clock>(
     ensures err { OnErr result (Emits F.alone (PrefixOf (IsConcluded (C.tells clock.now) answer))
         (F.known office.old) (F.known office.new)) }
     ensures backed { F.is_backed office.old → F.is_backed office.new }
+    ensures clean { F.is_clean office.new → F.is_clean office.old }
 {
     match answer {
         Answer::Reply(reply) => Ok(reply),
@@ -167,6 +172,7 @@ fn edit<F: Office, C: Clock>(
     ensures lost { OnErr result ((moment : ℕ) × IsMoment (C.tells clock.now) moment
         × Emits F.alone (PrefixOf (IsSubmitted command moment)) (F.known office.old) (F.known office.new)) }
     ensures backed { F.is_backed office.old → F.is_backed office.new }
+    ensures clean { F.is_clean office.new → F.is_clean office.old }
 {
     match office.edit(alloc, command, clock.now()) {
         Ok(receipt) => Ok(Ok(receipt)),

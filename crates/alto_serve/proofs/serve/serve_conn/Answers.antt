@@ -34,6 +34,7 @@ loop-count-preserved g c =
       writes = next.writes ∙ before.writes;
       book = grown_on _ _ _ before.book next.book;
       backed = λ was. next.backed (before.backed was);
+      clean = λ is. before.clean (next.clean is);
     }
 
 pub loop-count-init : goal.loop-count-init
@@ -43,4 +44,5 @@ loop-count-init g c = record {
   writes = refl;
   book = grown_itself _;
   backed = λ was. was;
+  clean = λ is. is;
 }

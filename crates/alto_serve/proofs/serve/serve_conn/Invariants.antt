@@ -8,7 +8,7 @@ use Rattle.alto_serve.specs.Turns.{setting_of}
 use Rattle.alto_serve.proofs.serve.serve_conn.Given as goal
 
 -- as many requests had their turns as the loop has gone round; no fault was counted; the book has only grown, and what
--- is kept stands for it where it did
+-- is kept stands for it where it did, and was clean where it is
 abbrev pub invariant-loop-count : goal.invariant-loop-count
 invariant-loop-count g l =
     let setting = setting_of (client_of l.fn.side l.fn.peer) (g.C.Clock.tells l.fn.clock) g.F.Looks.alone l.fn.turns in
@@ -20,4 +20,5 @@ invariant-loop-count g l =
       writes : g.L.Link.failed_writes l.link ≡ g.L.Link.failed_writes l.fn.link;
       book : IsGrown (g.F.Looks.known l.office).seen (g.F.Looks.known l.fn.office).seen;
       backed : g.F.Looks.is_backed l.fn.office → g.F.Looks.is_backed l.office;
+      clean : g.F.Looks.is_clean l.office → g.F.Looks.is_clean l.fn.office;
     }

@@ -11,6 +11,7 @@ loop-turn-init g c = let all : c.args.turns - 0 ≡ c.args.turns = omega arith i
   edits = c.in_ok-look.ensures.edits;
   replies = c.in_ok-look.ensures.replies;
   backed = c.in_ok-look.ensures.backed;
+  clean = c.in_ok-look.ensures.clean;
 }
 
 pub returns-then-not-is_pending-clause-ok : goal.returns-then-not-is_pending-clause-ok
@@ -41,6 +42,7 @@ loop-turn-preserved g c =
       edits = c.in_ok-look-2.ensures.edits;
       replies = c.in_ok-look-2.ensures.replies;
       backed = λ was. c.in_ok-look-2.ensures.backed (c.wait.ensures.backed (c.loop-turn.invariant.backed was));
+      clean = λ is. c.loop-turn.invariant.clean (c.wait.ensures.clean (c.in_ok-look-2.ensures.clean is));
     }
 
 pub returns-clause-ok : goal.returns-clause-ok

@@ -16,4 +16,5 @@ invariant-loop-turn g l = record {
   edits : BringsEdits l.look.answer;
   replies : HasBytes l.look.answer;
   backed : g.F.Looks.is_backed l.fn.office → g.F.Looks.is_backed l.office;
+  clean : g.F.Looks.is_clean l.office → g.F.Looks.is_clean l.fn.office;
 }
