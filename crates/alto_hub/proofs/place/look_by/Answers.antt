@@ -1,0 +1,8 @@
+use Rattle.std.proofs.Common.{refl}
+use Rattle.alto_hub.specs.Seen.{after_look}
+use Rattle.alto_hub.specs.Versions.{log_of}
+use Rattle.alto_hub.proofs.TurnLemmas.{turns}
+use Rattle.alto_hub.proofs.place.look_by.Goals as goal
+
+pub enter_as-requires : goal.enter_as-requires
+enter_as-requires g c x views held = turns g.J.Naming.opening (after_look g.J.Naming.opening) (λ v log. refl) _ _ (log_of x) views held.0.led held
