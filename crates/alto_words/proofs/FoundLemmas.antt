@@ -55,6 +55,12 @@ task_is rows name found command is named =
     ap (task_in command) (fun_ext (value_is found))
     ∙ sym (ap task_found is ∙ ap (option_and_then (λ command. task_in command (λ id. first_of id (rows_of found)))) named)
 
+-- no task, where what was found is no command
+pub no_task : (rows : Option (List ℕ × List Row)) (name : List ℕ) (found : Found)
+    → rows ≡ Some (name, rows_of found) → command_named name ≡ None → task_found rows ≡ None
+no_task rows name found is named =
+    ap task_found is ∙ ap (option_and_then (λ command. task_in command (λ id. first_of id (rows_of found)))) named
+
 simple : is_simple program ≡ true
 simple = refl
 

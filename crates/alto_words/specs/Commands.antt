@@ -3,18 +3,20 @@ use Rattle.std.specs.Prelude.{ℕ, List, [], ◌∷◌, Option, codes}
 use Rattle.std.specs.List.{find}
 use Rattle.std.specs.Str.{bytes_eq}
 use Rattle.alto_words.specs.declared.command_name.CommandName.{CommandName}
-use Rattle.alto_words.specs.declared.command_name.CommandName.TheVariants.{Init, Pipe, Import, Show}
+use Rattle.alto_words.specs.declared.command_name.CommandName.TheVariants.{Init, Pipe, Serve, Import, Show, Drill}
 
 -- the word that names a command
 abbrev pub text_of : CommandName → List ℕ
 text_of Init = codes "init"
 text_of Pipe = codes "pipe"
+text_of Serve = codes "serve"
 text_of Import = codes "import"
 text_of Show = codes "show"
+text_of Drill = codes "drill"
 
 -- every command
 abbrev pub commands : List CommandName
-commands = Init ∷ Pipe ∷ Import ∷ Show ∷ []
+commands = Init ∷ Pipe ∷ Serve ∷ Import ∷ Show ∷ Drill ∷ []
 
 -- the command that a word names
 abbrev pub command_named : List ℕ → Option CommandName

@@ -25,6 +25,12 @@ init_app = with_rule (with_rule (with_rule (new_app (codes "init"))
 abbrev pub pipe_app : App
 pipe_app = with_rule (with_rule (new_app (codes "pipe")) (positional (codes "STORE"))) (option (codes "turns"))
 
+-- serve STORE --public ADDRESS --operator ADDRESS --workers N [--turns T]
+abbrev pub serve_app : App
+serve_app = with_rule (with_rule (with_rule (with_rule (with_rule (new_app (codes "serve"))
+    (positional (codes "STORE"))) (required (option (codes "public")))) (required (option (codes "operator"))))
+    (required (option (codes "workers")))) (option (codes "turns"))
+
 -- import STORE --id ID --form FORM
 abbrev pub import_app : App
 import_app = with_rule (with_rule (with_rule (new_app (codes "import"))
@@ -33,6 +39,10 @@ import_app = with_rule (with_rule (with_rule (new_app (codes "import"))
 -- show STORE RESOURCE
 abbrev pub show_app : App
 show_app = with_rule (with_rule (new_app (codes "show")) (positional (codes "STORE"))) (positional (codes "RESOURCE"))
+
+-- drill --number X [--batches B]
+abbrev pub drill_app : App
+drill_app = with_rule (with_rule (new_app (codes "drill")) (required (option (codes "number")))) (option (codes "batches"))
 
 -- the program without its commands: none of what clap adds by itself, and a command has to be there
 abbrev pub program_app : App
@@ -48,8 +58,8 @@ program_app = record (new_app (codes "alto")) {
 
 -- the program
 abbrev pub program : App
-program = with_subcommand (with_subcommand (with_subcommand (with_subcommand program_app
-    init_app.top) pipe_app.top) import_app.top) show_app.top
+program = with_subcommand (with_subcommand (with_subcommand (with_subcommand (with_subcommand (with_subcommand
+    program_app init_app.top) pipe_app.top) serve_app.top) import_app.top) show_app.top) drill_app.top
 
 -- a command has one more argument of its own than another
 abbrev pub Adds : Rule → Command → Command → Type 0

@@ -2,7 +2,7 @@ ghost use Rattle.std.specs.Prelude.{◌≡◌, IfOk, false};
 ghost use Rattle.clap.specs.Words.{app_of, with_subcommand};
 ghost use Rattle.clap.specs.declared.builder.command.Command.TheViews.{out-Command as fields_of};
 ghost use Rattle.alto_words.specs.Grammar.{Adds, option, positional, program, program_app, required};
-ghost use Rattle.alto_words.specs.Grammar.{import_app, init_app, pipe_app, show_app};
+ghost use Rattle.alto_words.specs.Grammar.{drill_app, import_app, init_app, pipe_app, serve_app, show_app};
 
 use clap::{Arg, Command};
 use std::alloc::{AllocError, Global};
@@ -13,8 +13,10 @@ pub(crate) fn alto<'a>(alloc: Global) -> Result<Command<'a>, AllocError>
 {
     let alto = with_command(top(alloc), init(alloc)?)?;
     let alto = with_command(alto, pipe(alloc)?)?;
+    let alto = with_command(alto, serve(alloc)?)?;
     let alto = with_command(alto, import(alloc)?)?;
-    with_command(alto, show(alloc)?)
+    let alto = with_command(alto, show(alloc)?)?;
+    with_command(alto, drill(alloc)?)
 }
 
 /// The program without its commands. What `clap` adds by itself is left out.
@@ -46,6 +48,17 @@ fn pipe<'a>(alloc: Global) -> Result<Command<'a>, AllocError>
     with_option(alloc, pipe, "turns")
 }
 
+fn serve<'a>(alloc: Global) -> Result<Command<'a>, AllocError>
+    ensures app { IfOk result (λ command. app_of command ≡ serve_app) }
+    ensures local { IfOk result (λ command. (fields_of command).has_globals ≡ false) }
+{
+    let serve = with_positional(alloc, Command::new(alloc, "serve"), "STORE")?;
+    let serve = with_required_option(alloc, serve, "public")?;
+    let serve = with_required_option(alloc, serve, "operator")?;
+    let serve = with_required_option(alloc, serve, "workers")?;
+    with_option(alloc, serve, "turns")
+}
+
 fn import<'a>(alloc: Global) -> Result<Command<'a>, AllocError>
     ensures app { IfOk result (λ command. app_of command ≡ import_app) }
     ensures local { IfOk result (λ command. (fields_of command).has_globals ≡ false) }
@@ -61,6 +74,14 @@ fn show<'a>(alloc: Global) -> Result<Command<'a>, AllocError>
 {
     let show = with_positional(alloc, Command::new(alloc, "show"), "STORE")?;
     with_positional(alloc, show, "RESOURCE")
+}
+
+fn drill<'a>(alloc: Global) -> Result<Command<'a>, AllocError>
+    ensures app { IfOk result (λ command. app_of command ≡ drill_app) }
+    ensures local { IfOk result (λ command. (fields_of command).has_globals ≡ false) }
+{
+    let drill = with_required_option(alloc, Command::new(alloc, "drill"), "number")?;
+    with_option(alloc, drill, "batches")
 }
 
 /// The program with one more command.

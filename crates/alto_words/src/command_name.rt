@@ -8,16 +8,20 @@ ghost use Rattle.alto_words.specs.Commands.{command_named, text_of};
 pub enum CommandName {
     Init,
     Pipe,
+    Serve,
     Import,
     Show,
+    Drill,
 }
 
 /// Every command, in the order in which they are listed.
-const COMMANDS: [CommandName; 4] = [
+const COMMANDS: [CommandName; 6] = [
     CommandName::Init,
     CommandName::Pipe,
+    CommandName::Serve,
     CommandName::Import,
     CommandName::Show,
+    CommandName::Drill,
 ];
 
 impl CommandName {
@@ -35,8 +39,10 @@ impl CommandName {
         match self {
             CommandName::Init => "init",
             CommandName::Pipe => "pipe",
+            CommandName::Serve => "serve",
             CommandName::Import => "import",
             CommandName::Show => "show",
+            CommandName::Drill => "drill",
         }
     }
 }

@@ -6,6 +6,8 @@
 //! pipe STORE [--turns T]                        COMMAND --help
 //! import STORE --id ID --form csv (or json)     --version
 //! show STORE RESOURCE
+//! drill --number X [--batches B]
+//! serve STORE --public ADDRESS --operator ADDRESS --workers N [--turns T]
 //! ```
 #![tactic(auto)]
 
@@ -22,7 +24,7 @@ mod worked_lines;
 pub use command_name::CommandName;
 pub use help::{VERSION, WORDS_FAULT, help_text};
 pub use reading::read_words;
-pub use task::{Form, Task, Topic, WordsFault};
+pub use task::{Task, Topic, WordsFault};
 pub use worked_lines::{
     arguments_are_those_of_the_command, each_command_asks_for_its_task,
     hyphens_begin_options_before_two_hyphens, numbers_are_digits_in_a_range,

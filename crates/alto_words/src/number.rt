@@ -1,4 +1,4 @@
-ghost use Rattle.std.specs.Prelude.{◌≡◌};
+ghost use Rattle.std.specs.Prelude.{◌≡◌, ◌≤◌, IfSome};
 ghost use Rattle.alto_words.specs.Numbers.{is_decimal, is_number, number_in};
 
 /// The most digits of a number.
@@ -6,7 +6,8 @@ const MOST_DIGITS: usize = 10;
 
 /// The number that a word writes, if it is from `least` to `most`.
 pub(crate) fn number_in(word: &str, least: u32, most: u32) -> Option<u32>
-    ensures { result ≡ number_in least most word.now }
+    ensures number { result ≡ number_in least most word.now }
+    ensures range { IfSome result (λ number. (least ≤ number) × (number ≤ most)) }
 {
     if !is_number(word) {
         return None;

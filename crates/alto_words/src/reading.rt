@@ -1,5 +1,5 @@
-ghost use Rattle.std.specs.Prelude.{◌≡◌, ◌≢◌, IfOk, IfErr, None, Some, map};
-ghost use Rattle.alto_words.specs.Tasks.{Gives};
+ghost use Rattle.std.specs.Prelude.{◌≡◌, ◌≢◌, IfOk, IfErr, IfSome, None, Some, map};
+ghost use Rattle.alto_words.specs.Tasks.{Gives, IsInRange};
 ghost use Rattle.alto_words.specs.Words.{asked, command_task, task_found, task_of};
 ghost use Rattle.clap.specs.Words.{kind_of, subcommand_rows_of};
 ghost use Rattle.alto_words.specs.declared.task.WordsFault.TheVariants.{Memory, Outside};
@@ -18,6 +18,7 @@ use std::alloc::{AllocError, Global};
 pub fn read_words(alloc: Global, words: &[Name]) -> Result<Task, WordsFault>
     ensures meant { IfOk result (λ task. task_of words.now ≡ Some task) }
     ensures outside { IfErr result (λ fault. fault ≡ Outside → task_of words.now ≡ None) }
+    ensures ranges { IfOk result IsInRange }
 {
     match asked(words) {
         Some(task) => Ok(task),
@@ -27,7 +28,8 @@ pub fn read_words(alloc: Global, words: &[Name]) -> Result<Task, WordsFault>
 
 /// What `--help` and `--version` ask for.
 fn asked(words: &[Name]) -> Option<Task>
-    ensures { result ≡ asked words.now }
+    ensures asked { result ≡ asked words.now }
+    ensures ranges { IfSome result IsInRange }
 {
     match words {
         [word] if word.as_str() == "--help" => Some(Task::Help(Topic::Program)),
@@ -42,7 +44,8 @@ fn asked(words: &[Name]) -> Option<Task>
 
 /// The task of a command and its arguments.
 fn command_task(alloc: Global, words: &[Name]) -> Result<Task, WordsFault>
-    ensures { Gives (command_task words.now) result }
+    ensures gives { Gives (command_task words.now) result }
+    ensures ranges { IfOk result IsInRange }
 {
     let texts = texts_of(alloc, words)?;
     let matches = match alto(alloc)?.try_get_matches_from(texts.as_slice()) {
@@ -65,7 +68,8 @@ fn texts_of<'w>(alloc: Global, words: &'w [Name]) -> Result<Vec<&'w str>, AllocE
 
 /// The task of the command that was found, with its values.
 fn task_found(alloc: Global, matches: &ArgMatches) -> Result<Task, WordsFault>
-    ensures { Gives (task_found (subcommand_rows_of matches.now)) result }
+    ensures gives { Gives (task_found (subcommand_rows_of matches.now)) result }
+    ensures ranges { IfOk result IsInRange }
 {
     let Some((name, values)) = matches.subcommand() else {
         return Err(WordsFault::Outside);

@@ -1,5 +1,6 @@
 use crate::command_name::CommandName;
 use alto_names::{Epoch, ImportId};
+use edit_forms::Form;
 use json_tree::Name;
 use std::alloc::AllocError;
 
@@ -22,6 +23,19 @@ pub enum Task {
         /// How often the next edge is waited for: 0 to 1,000.
         turns: u32,
     },
+    /// Answers the requests of connections.
+    Serve {
+        /// Where the store is.
+        store: Name,
+        /// Where clients connect. Any text: it need not be an address.
+        public: Name,
+        /// Where the operator connects, likewise.
+        operator: Name,
+        /// How many connections of each side are served at once: 1 to 64.
+        workers: u32,
+        /// How often the next edge is waited for: 0 to 1,000.
+        turns: u32,
+    },
     /// Takes the edits of standard input.
     Import {
         /// Where the store is.
@@ -38,19 +52,17 @@ pub enum Task {
         /// Whose document it is. Any text: it need not name a resource.
         resource: Name,
     },
+    /// Makes a book in memory, and follows every edge of it.
+    Drill {
+        /// With which the book's edits are drawn.
+        number: u32,
+        /// How many batches the book has: 1 to 1,000.
+        batches: u32,
+    },
     /// Prints a help text.
     Help(Topic),
     /// Prints the version.
     Version,
-}
-
-/// How the body of an import is written.
-#[derive(Clone, Copy, Debug, PartialEq, Eq)]
-pub enum Form {
-    /// Records of CSV.
-    Csv,
-    /// A JSON object with the list of edits.
-    Json,
 }
 
 /// What a help text is about.

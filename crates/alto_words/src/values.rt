@@ -1,11 +1,12 @@
-ghost use Rattle.std.specs.Prelude.{◌≡◌};
+ghost use Rattle.std.specs.Prelude.{◌≡◌, ◌≤◌, IfOk};
 ghost use Rattle.std.specs.Option.{option_and_then, option_copied};
 ghost use Rattle.alto_words.specs.Numbers.{number_in};
 ghost use Rattle.alto_words.specs.Tasks.{Gives, epoch_in, form_in, id_in, or_usual};
 
 use crate::number::number_in;
-use crate::task::{Form, WordsFault};
+use crate::task::WordsFault;
 use alto_names::{Epoch, ImportId, NameFault};
+use edit_forms::Form;
 use json_tree::Name;
 use std::alloc::Global;
 
@@ -60,7 +61,8 @@ pub(crate) fn form(value: Option<&str>) -> Result<Form, WordsFault>
 
 /// The value as a number from `least` to `most`.
 pub(crate) fn number(value: Option<&str>, least: u32, most: u32) -> Result<u32, WordsFault>
-    ensures { Gives (option_and_then (number_in least most) (option_copied value.entry)) result }
+    ensures gives { Gives (option_and_then (number_in least most) (option_copied value.entry)) result }
+    ensures range { IfOk result (λ number. (least ≤ number) × (number ≤ most)) }
 {
     let Some(word) = value else {
         return Err(WordsFault::Outside);
@@ -75,7 +77,8 @@ pub(crate) fn number_or(
     least: u32,
     most: u32,
 ) -> Result<u32, WordsFault>
-    ensures { Gives (or_usual usual (number_in least most) (option_copied value.entry)) result }
+    ensures gives { Gives (or_usual usual (number_in least most) (option_copied value.entry)) result }
+    ensures range { least ≤ usual → usual ≤ most → IfOk result (λ number. (least ≤ number) × (number ≤ most)) }
 {
     match value {
         Some(_) => number(value, least, most),

@@ -1,11 +1,11 @@
 //! Command lines worked out by hand, as theorems: each line is computed by the definition of what words ask for.
 
 ghost use Rattle.std.specs.Prelude.{◌≡◌, None, [], ◌∷◌, codes};
+ghost use Rattle.edit_forms.specs.declared.form.Form.TheVariants.{Csv, Json};
 ghost use Rattle.alto_words.specs.Lines.{AsksFor, IsOutside};
 ghost use Rattle.alto_words.specs.Words.{task_of};
 ghost use Rattle.alto_words.specs.declared.command_name.CommandName.TheVariants as command;
-ghost use Rattle.alto_words.specs.declared.task.Form.TheVariants.{Csv, Json};
-ghost use Rattle.alto_words.specs.declared.task.Task.TheVariants.{Help, Import, Init, Pipe, Show, Version};
+ghost use Rattle.alto_words.specs.declared.task.Task.TheVariants.{Drill, Help, Import, Init, Pipe, Serve, Show, Version};
 ghost use Rattle.alto_words.specs.declared.task.Topic.TheVariants as topic;
 
 /// Each command, as it is mostly written.
@@ -13,9 +13,15 @@ pub fn each_command_asks_for_its_task()
     ensures init { AsksFor (codes "init x --epoch e1 --window 8") (Init (codes "x") (codes "e1") 8) }
     ensures pipe { AsksFor (codes "pipe x --turns 3") (Pipe (codes "x") 3) }
     ensures usual_turns { AsksFor (codes "pipe x") (Pipe (codes "x") 30) }
+    ensures serve { AsksFor (codes "serve x --public 127.0.0.1:80 --operator [::1]:81 --workers 4 --turns 3")
+        (Serve (codes "x") (codes "127.0.0.1:80") (codes "[::1]:81") 4 3) }
+    ensures usually_served { AsksFor (codes "serve x --public a --operator b --workers 64")
+        (Serve (codes "x") (codes "a") (codes "b") 64 30) }
     ensures import { AsksFor (codes "import x --id i9 --form csv") (Import (codes "x") (codes "i9") Csv) }
     ensures json { AsksFor (codes "import x --id i9 --form json") (Import (codes "x") (codes "i9") Json) }
     ensures show { AsksFor (codes "show x metro") (Show (codes "x") (codes "metro")) }
+    ensures drill { AsksFor (codes "drill --number 7") (Drill 7 40) }
+    ensures longer_drill { AsksFor (codes "drill --batches=1000 --number 4294967295") (Drill 4294967295 1000) }
     ensures help { AsksFor (codes "--help") (Help topic.Program) }
     ensures help_of_a_command { AsksFor (codes "import --help") (Help (topic.Command command.Import)) }
     ensures version { AsksFor (codes "--version") Version }
@@ -50,6 +56,7 @@ pub fn arguments_are_those_of_the_command()
     ensures the_same_twice { IsOutside (codes "pipe x --turns 3 --turns=3") }
     ensures no_option { IsOutside (codes "import x --id i9") }
     ensures no_value { IsOutside (codes "import x --form csv --id") }
+    ensures no_side { IsOutside (codes "serve x --public a --workers 4") }
     ensures no_positional { IsOutside (codes "show x") }
     ensures one_positional_more { IsOutside (codes "show x metro y") }
     ensures another_option { IsOutside (codes "show x metro --turns 3") }
@@ -70,6 +77,11 @@ pub fn numbers_are_digits_in_a_range()
     ensures narrow { IsOutside (codes "init x --epoch e1 --window 1") }
     ensures wide { IsOutside (codes "init x --epoch e1 --window 33") }
     ensures past_32_bits { IsOutside (codes "pipe x --turns 4294967296") }
+    ensures no_workers { IsOutside (codes "serve x --public a --operator b --workers 0") }
+    ensures many_workers { IsOutside (codes "serve x --public a --operator b --workers 65") }
+    ensures no_batches { IsOutside (codes "drill --number 7 --batches 0") }
+    ensures many_batches { IsOutside (codes "drill --number 7 --batches 1001") }
+    ensures number_past_32_bits { IsOutside (codes "drill --number 4294967296") }
     ensures no_window { IsOutside (codes "init x --epoch e1 --window 0") }
 {}
 
@@ -86,13 +98,12 @@ pub fn values_are_of_their_kinds()
 /// Words that name no command ask for nothing; help and the version stand alone or behind a command.
 pub fn other_words_are_outside()
     ensures no_words { task_of [] ≡ None }
-    ensures no_command { IsOutside (codes "serve x") }
-    ensures drill { IsOutside (codes "drill --number 7") }
+    ensures no_command { IsOutside (codes "trim x") }
     ensures prefix_of_a_command { IsOutside (codes "sho x metro") }
     ensures help_as_a_word { IsOutside (codes "help") }
     ensures short_help { IsOutside (codes "-h") }
     ensures help_among_arguments { IsOutside (codes "show x metro --help") }
-    ensures help_of_no_command { IsOutside (codes "drill --help") }
+    ensures help_of_no_command { IsOutside (codes "trim --help") }
     ensures help_before_a_command { IsOutside (codes "--help show") }
     ensures version_of_a_command { IsOutside (codes "show --version") }
 {}

@@ -9,6 +9,7 @@ returns c = record {
   the_same_twice = refl;
   no_option = refl;
   no_value = refl;
+  no_side = refl;
   no_positional = refl;
   one_positional_more = refl;
   another_option = refl;

@@ -16,5 +16,10 @@ returns c = record {
   narrow = refl;
   wide = refl;
   past_32_bits = refl;
+  no_workers = refl;
+  many_workers = refl;
+  no_batches = refl;
+  many_batches = refl;
+  number_past_32_bits = refl;
   no_window = refl;
 }

@@ -7,7 +7,6 @@ unfolding clap_on_literals
 returns c = record {
   no_words = refl;
   no_command = refl;
-  drill = refl;
   prefix_of_a_command = refl;
   help_as_a_word = refl;
   short_help = refl;
