@@ -1,0 +1,11 @@
+pub mod NameLemmas
+pub mod EditLemmas
+pub mod BookLemmas
+pub mod DepthLemmas
+pub mod TextLemmas
+pub mod TreeLemmas
+pub mod ReadLemmas
+pub mod EdgeLemmas
+pub mod TrialLemmas
+pub mod LawLemmas
+pub mod DrillLemmas
