@@ -21,7 +21,7 @@ use alto_replies::{Reply, document_reply, ok_reply};
 use alto_rows::RowStore;
 use alto_versions::Front;
 use cost_filters::{filter_cost_text, read_cost_ask};
-use endpoint_costs::{EndAsk, endpoint_cost, read_end_ask};
+use endpoint_costs::{EndAsk, endpoint_cost_text, read_end_ask};
 use json_tree::Tree;
 use net_docs::{filter_net, read_net_ask};
 use path_docs::{multipart, path_vector, read_path_ask};
@@ -110,8 +110,8 @@ fn endpoint_reply<R: RowStore>(
         (endpoint_costs front.now.rows net.now ask.now client.now.peer)) }
 {
     let table = table_of(front, net);
-    let costs = endpoint_cost(alloc, &*front.rows, net, table, ask, client.peer)?;
-    document_reply(alloc, ENDPOINT_COST, &costs)
+    let costs = endpoint_cost_text(alloc, &*front.rows, net, table, ask, client.peer)?;
+    ok_reply(alloc, ENDPOINT_COST, costs)
 }
 
 /// The properties of the entities that an object asks for, or the object's first fault.

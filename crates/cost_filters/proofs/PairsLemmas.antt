@@ -3,8 +3,8 @@ use Rattle.std.proofs.Common.{◌≡◌, ◌∙◌, ◌+◌, ◌<◌, ℕ, zero,
 use Rattle.std.proofs.lemmas.Bool.{or_right}
 use Rattle.std.proofs.lemmas.Bool.Decides.{nat_tests}
 use Rattle.std.proofs.lemmas.Simd.{map-map}
-use Rattle.std.specs.Prelude.{Bool, true, false, nat_eq, List, [], ◌∷◌, Option, Some, None, map, option_map, slice_get}
-use Rattle.std.specs.List.{range_with_len}
+use Rattle.std.specs.Prelude.{Bool, true, false, nat_eq, List, [], ◌∷◌, Option, Some, None, is_some, map, option_map, slice_get, unwrap_or}
+use Rattle.std.specs.List.{list_any, range_with_len}
 use Rattle.alto_rows.specs.Rows.{Rows}
 use Rattle.alto_maps.specs.Shape.{Name}
 use Rattle.cost_docs.specs.CostMap.{cost_of}
@@ -15,7 +15,7 @@ use Rattle.cost_filters.specs.declared.types.CostType.{CostType}
 use Rattle.cost_filters.specs.Columns.{column_cost, columns_of, scaled}
 use Rattle.cost_filters.specs.Filter.{costs_of, tested_costs}
 use Rattle.cost_filters.specs.Holds.{all_hold, one_holds}
-use Rattle.cost_filters.specs.Pairs.{PairsData, Table, costs_at, if_there, one_is_empty, pair_costs, shown_at, told_from, tested_from}
+use Rattle.cost_filters.specs.Pairs.{PairsData, Table, cost_shown, costs_at, costs_shown, if_there, is_shown, one_is_empty, pair_costs, told_from, tested_from}
 use Rattle.cost_filters.specs.Runs.{cost_to}
 use Rattle.cost_filters.proofs.FilterLemmas.{columns_tell}
 
@@ -66,6 +66,10 @@ empty_holds costs ((constraint ∷ constraints) ∷ alternatives) h =
 
 -- ---- pairs
 
+-- the costs at a place, where they make a pair
+abbrev shown_at : List (List Constraint) → Table → Table → ℕ → Option (List (Option ℕ))
+shown_at alternatives told tested at = cost_shown told at (is_shown alternatives told tested at)
+
 -- the pair at a place of the costs is that of the destination there
 shown_there : (pairs : PairsData) (src : Name) (dsts : List Name) (told tested : Table) (at : ℕ) (d : Name) → at < length dsts
     → costs_at at told ≡ costs_of pairs.rows pairs.net pairs.types src (get_or dsts at d)
@@ -93,13 +97,22 @@ each_place {A} g f (name ∷ names) start each =
 zero_more : (at : ℕ) → 0 + at ≡ at
 zero_more at = omega arith
 
+-- what is shown of each of so many places
+each_shown : (alternatives : List (List Constraint)) (told tested : Table) (start count : ℕ)
+    → costs_shown told start (map (is_shown alternatives told tested) (range_with_len start count))
+    ≡ map (shown_at alternatives told tested) (range_with_len start count)
+each_shown alternatives told tested start zero = refl
+each_shown alternatives told tested start (suc count) =
+    ap (λ (more : List (Option (List (Option ℕ)))). shown_at alternatives told tested start ∷ more) (each_shown alternatives told tested (start + 1) count)
+
 -- the pairs at all places are those of the destinations
 pub all_pairs : (pairs : PairsData) (src : Name) (dsts : List Name) (columns : List Column) (told tested : Table) → columns ≡ columns_of pairs.rows pairs.net pairs.types
     → told ≡ told_from pairs.rows pairs.net columns src dsts
     → (one_is_empty pairs.alternatives ≡ false → tested ≡ tested_from pairs.rows pairs.net pairs.tested src dsts)
-    → map (shown_at pairs.alternatives told tested) (range_with_len 0 (length dsts)) ≡ map (pair_costs pairs src) dsts
+    → costs_shown told 0 (map (is_shown pairs.alternatives told tested) (range_with_len 0 (length dsts))) ≡ map (pair_costs pairs src) dsts
 all_pairs pairs src dsts columns told tested made costs tests =
-    each_place (shown_at pairs.alternatives told tested) (pair_costs pairs src) dsts 0
+    each_shown pairs.alternatives told tested 0 (length dsts)
+    ∙ each_place (shown_at pairs.alternatives told tested) (pair_costs pairs src) dsts 0
     (λ at d within.
     ap (shown_at pairs.alternatives told tested) (zero_more at)
     ∙ shown_there pairs src dsts told tested at d within
@@ -123,3 +136,28 @@ place_more {A} g before all at count one within is whole =
     append_assoc before (one ∷ []) (map g (range_with_len (at + 1) (count - (at + 1))))
     ∙ (ap (λ (x : A). before ++ x ∷ map g (range_with_len (at + 1) (count - (at + 1)))) is
     ∙ (ap (λ n. before ++ map g (range_with_len at n)) (sym step) ∙ whole))
+
+-- ---- what was found
+
+-- there is a pair where a place is shown
+pub any_shown : (told : Table) (at : ℕ) (shown : List Bool) → list_any (λ flag. flag) shown ≡ list_any (λ pair. is_some pair) (costs_shown told at shown)
+any_shown told at [] = refl
+any_shown told at (true ∷ shown) = refl
+any_shown told at (false ∷ shown) = any_shown told (at + 1) shown
+
+-- what is found at a place
+at_flag : (told : Table) (start : ℕ) (shown : List Bool) (at : ℕ)
+    → if_there (slice_get (costs_shown told start shown) at) ≡ cost_shown told (start + at) (unwrap_or (slice_get shown at) false)
+at_flag told start [] at = refl
+at_flag told start (flag ∷ shown) zero = let here : start ≡ start + 0 = omega arith in ap (λ n. cost_shown told n flag) here
+at_flag told start (flag ∷ shown) (suc at) =
+    let later : (start + 1) + at ≡ start + suc at = omega arith in
+    at_flag told (start + 1) shown at ∙ ap (λ n. cost_shown told n (unwrap_or (slice_get shown at) false)) later
+
+pub found_there : (told : Table) (shown : List Bool) (at : ℕ)
+    → if_there (slice_get (costs_shown told 0 shown) at) ≡ cost_shown told at (unwrap_or (slice_get shown at) false)
+found_there told shown at = at_flag told 0 shown at ∙ ap (λ n. cost_shown told n (unwrap_or (slice_get shown at) false)) (zero_more at)
+
+pub is_found : (told : Table) (at : ℕ) (flag : Bool) → flag ≡ is_some (cost_shown told at flag)
+is_found told at true = refl
+is_found told at false = refl

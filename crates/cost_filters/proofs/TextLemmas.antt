@@ -83,7 +83,7 @@ listed_valued value names rise =
 
 -- ---- names in byte order, each once
 
-set_members : (value : Name → Option Data) (names all : List Name) → IsSetOf names all → members_of (valued value names) ≡ members_of (valued value all)
+pub set_members : (value : Name → Option Data) (names all : List Name) → IsSetOf names all → members_of (valued value names) ≡ members_of (valued value all)
 set_members value names all set =
     same_members _ _ (in_order-members_of (valued value names)) (in_order-members_of (valued value all))
     (λ q. found-valued value names q ∙ (ap (λ b. cond b (value q) None) (set.same q) ∙ sym (found-valued value all q)))
@@ -148,7 +148,8 @@ option_cond : {A B : Type 0} (f : A → B) (b : Bool) (x : A) → option_map f (
 option_cond f true x = refl
 option_cond f false x = refl
 
-pair_is : (rows : Rows) (net : Name) (ask : CostAskData) (src dst : Name) → pair_shown ask.multi (pairs_of rows net ask) src dst ≡ pair_value rows net ask src dst
+-- a pair has its value
+pub pair_is : (rows : Rows) (net : Name) (ask : CostAskData) (src dst : Name) → pair_shown ask.multi (pairs_of rows net ask) src dst ≡ pair_value rows net ask src dst
 pair_is rows net ask src dst = option_cond (costs_data ask.multi) (is_pair rows net ask src dst) (costs_of rows net ask.types src dst)
 
 group_is : (rows : Rows) (net : Name) (ask : CostAskData) (src : Name) → group_shown ask.multi ask.dsts (pairs_of rows net ask) src ≡ group_value rows net ask src

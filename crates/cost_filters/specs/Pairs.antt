@@ -1,5 +1,5 @@
 -- The pairs that cost types and constraints make, source by source.
-use Rattle.std.specs.Prelude.{ℕ, nat_eq, List, Bool, ◌&&◌, ◌||◌, Option, Some, None, is_some, length, map}
+use Rattle.std.specs.Prelude.{ℕ, ◌+◌, nat_eq, List, [], ◌∷◌, Bool, ◌&&◌, ◌||◌, Option, Some, None, is_some, length, map}
 use Rattle.std.specs.Prelude.{option_map, slice_get, if◌then◌else◌}
 use Rattle.std.specs.List.{list_any}
 use Rattle.serde_json.specs.Data.{Data}
@@ -82,8 +82,16 @@ told_from rows net columns src dsts = map (λ column. map (λ dst. column_cost r
 abbrev pub tested_from : Rows → Name → List CostType → Name → List Name → Table
 tested_from rows net types src dsts = map (λ type. map (λ dst. cost_of rows net type.metric src dst) dsts) types
 
--- a pair by its costs in both
-abbrev pub shown_at : List (List Constraint) → Table → Table → ℕ → Option (List (Option ℕ))
-shown_at alternatives told tested at =
-    if has_cost (costs_at at told) && (one_is_empty alternatives || one_holds (costs_at at tested) alternatives)
-    then Some (costs_at at told) else None
+-- the costs at a place of both make a pair
+abbrev pub is_shown : List (List Constraint) → Table → Table → ℕ → Bool
+is_shown alternatives told tested at =
+    has_cost (costs_at at told) && (one_is_empty alternatives || one_holds (costs_at at tested) alternatives)
+
+-- the costs at a place, where they are shown
+abbrev pub cost_shown : Table → ℕ → Bool → Option (List (Option ℕ))
+cost_shown told at shown = if shown then Some (costs_at at told) else None
+
+-- those at the places from one on
+abbrev pub costs_shown : Table → ℕ → List Bool → List (Option (List (Option ℕ)))
+costs_shown told at [] = []
+costs_shown told at (shown ∷ more) = cost_shown told at shown ∷ costs_shown told (at + 1) more

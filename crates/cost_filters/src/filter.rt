@@ -1,6 +1,5 @@
 //! The filtered cost map as JSON text, written without a tree.
-ghost use Rattle.std.specs.Prelude.{◌≡◌, [], ◌∷◌, codes, IfOk, OnOk, is_some, option_map};
-ghost use Rattle.std.specs.List.{list_any};
+ghost use Rattle.std.specs.Prelude.{◌≡◌, [], ◌∷◌, codes, IfOk, OnOk, option_map};
 ghost use Rattle.std.specs.Cmp.Lexicographic.{slice_cmp};
 ghost use Rattle.std.specs.List.Sorted.{IsStrictlySortedBy};
 ghost use Rattle.std.specs.Ordering.{nat_cmp};
@@ -12,17 +11,18 @@ ghost use Rattle.alto_maps.specs.Shape.{section_object};
 ghost use Rattle.alto_maps.specs.Writing.{AddsMember, AddsMembers, AddsValue};
 ghost use Rattle.net_docs.specs.NetworkMap.{dependent_tags};
 ghost use Rattle.cost_filters.specs.Columns.{object_if_any, valued};
-ghost use Rattle.cost_filters.specs.Filter.{costs_data, filtered_costs, filtered_face, filtered_meta};
+ghost use Rattle.cost_filters.specs.Filter.{filtered_costs, filtered_face, filtered_meta};
 ghost use Rattle.cost_filters.specs.Filter.{types_data, types_name};
 ghost use Rattle.cost_filters.specs.Names.{AreSetIfAny};
 ghost use Rattle.cost_filters.specs.Pairs.{pair_shown};
 ghost use Rattle.cost_filters.specs.Text.{AddsIfAny, group_made, found_object, shown_members};
 
 use crate::ask::CostAsk;
+use crate::found::Found;
 use crate::names::{names_given, srcs_of};
-use crate::pairs::{Costs, Pairs, found_at};
+use crate::pairs::Pairs;
 use crate::types::CostType;
-use crate::writing::{write_costs, write_types};
+use crate::writing::write_types;
 use alto_names::{NetName, PidName};
 use alto_rows::RowStore;
 use json::Writer;
@@ -191,12 +191,12 @@ fn write_found(
     multi: bool,
     src: &PidName,
     dsts: &[PidName],
-    found: &[Option<Costs>],
+    found: &Found,
     out: &mut Writer,
 ) -> Result<(), AllocError>
     ensures { OnOk result (AddsIfAny src.now (found_object multi dsts.now found.now) out.old out.new) }
 {
-    if !has_pair(found) {
+    if !found.has_pair() {
         return Ok(());
     }
     out.key(src.as_str())?;
@@ -205,44 +205,18 @@ fn write_found(
     out.end_object()
 }
 
-/// Whether anything was found.
-fn has_pair(found: &[Option<Costs>]) -> bool
-    ensures { result ≡ list_any (λ pair. is_some pair) found.now }
-{
-    found.iter().any(|pair| pair.is_some())
-}
-
 /// Writes each of the destinations of which something was found.
 fn write_members(
     multi: bool,
     dsts: &[PidName],
-    found: &[Option<Costs>],
+    found: &Found,
     out: &mut Writer,
 ) -> Result<(), AllocError>
     ensures { OnOk result (AddsMembers
         (members_in_order (shown_members multi dsts.now found.now)) out.old out.new) }
 {
     for (at, dst) in dsts.iter().enumerate() {
-        write_member(multi, dst, found_at(found, at), out)?;
+        found.write_pair(multi, dst.as_str(), at, out)?;
     }
     Ok(())
-}
-
-/// Writes a destination with its costs, if there are any.
-fn write_member(
-    multi: bool,
-    dst: &PidName,
-    costs: Option<&Costs>,
-    out: &mut Writer,
-) -> Result<(), AllocError>
-    ensures { OnOk result (AddsIfAny dst.now
-        (option_map (costs_data multi) (option_map (λ costs. costs.now) costs.entry)) out.old out.new) }
-{
-    match costs {
-        Some(costs) => {
-            out.key(dst.as_str())?;
-            write_costs(multi, costs.as_slice(), out)
-        }
-        None => Ok(()),
-    }
 }

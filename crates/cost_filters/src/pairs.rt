@@ -1,16 +1,17 @@
 //! The pairs that cost types and constraints make, source by source.
-ghost use Rattle.std.specs.Prelude.{◌≡◌, false, IfOk, is_some, map, option_map, slice_get};
+ghost use Rattle.std.specs.Prelude.{◌≡◌, false, IfOk, map};
 ghost use Rattle.std.specs.Cmp.Lexicographic.{slice_cmp};
-ghost use Rattle.std.specs.List.{list_any, range_with_len};
+ghost use Rattle.std.specs.List.{range_with_len};
 ghost use Rattle.std.specs.List.Sorted.{IsStrictlySortedBy};
 ghost use Rattle.std.specs.Ordering.{nat_cmp};
 ghost use Rattle.alto_rows.specs.Good.{AreGood};
 ghost use Rattle.cost_filters.specs.Columns.{columns_of, reached};
 ghost use Rattle.cost_filters.specs.Holds.{one_holds};
 ghost use Rattle.cost_filters.specs.Names.{IsSetOf};
-ghost use Rattle.cost_filters.specs.Pairs.{if_there, one_is_empty, pair_costs, shown_at, tested_from};
+ghost use Rattle.cost_filters.specs.Pairs.{is_shown, one_is_empty, pair_costs, tested_from};
 
 use crate::columns::{Column, columns_of, reached_once};
+use crate::found::Found;
 use crate::table::{Table, tested_from, told_from};
 use crate::types::CostType;
 use alto_names::{NetName, PidName};
@@ -18,30 +19,6 @@ use alto_rows::RowStore;
 use cost_rule::Constraint;
 use std::alloc::{AllocError, Global};
 use std::marker::Model;
-
-/// The costs of a pair by the asked types, in their order, `None` where it has none by a type. A contract sees the
-/// list.
-#[derive(Drop)]
-pub struct Costs {
-    costs: Vec<Option<u64>>,
-}
-
-impl Model for Costs {
-    ghost use Rattle.std.specs.Prelude.{ℕ, List, Option};
-
-    ghost Value = { List (Option ℕ) };
-
-    ghost view = { λ costs. costs.costs.items };
-}
-
-impl Costs {
-    /// The costs. Takes no memory.
-    pub fn as_slice(&self) -> &[Option<u64>]
-        ensures { result.now ≡ self.now }
-    {
-        &self.costs
-    }
-}
 
 /// Cost types and constraints that are asked of the pairs of a network, made ready for many pairs. A contract sees them
 /// with the rows and the network.
@@ -113,7 +90,7 @@ impl<'a, R: RowStore> Pairs<'a, R> {
         reached_once(alloc, self.rows, self.net, &self.columns, src)
     }
 
-    /// The pairs of a source with destinations in byte order: the costs of each, `None` where it is none.
+    /// The pairs of a source with destinations in byte order.
     ///
     /// For each type that is asked for or tested one search for each run of the store in which rows of these
     /// destinations lie, and for each destination one comparison where the gaps are right, else a binary search in
@@ -126,9 +103,9 @@ impl<'a, R: RowStore> Pairs<'a, R> {
         src: &PidName,
         dsts: &[PidName],
         gaps: &mut Vec<usize>,
-    ) -> Result<Vec<Option<Costs>>, AllocError>
+    ) -> Result<Found, AllocError>
         requires { IsStrictlySortedBy (slice_cmp nat_cmp) dsts.now }
-        ensures { IfOk result (λ pairs. pairs.items ≡ map (pair_costs self.now src.now) dsts.now) }
+        ensures { IfOk result (λ found. found ≡ map (pair_costs self.now src.now) dsts.now) }
     {
         let told = told_from(alloc, self.rows, self.net, &self.columns, src, dsts, gaps)?;
         let tested = tested_if_any(
@@ -141,17 +118,8 @@ impl<'a, R: RowStore> Pairs<'a, R> {
             dsts,
             gaps,
         )?;
-        all_shown(alloc, self.alternatives, &told, &tested, dsts.len())
-    }
-}
-
-/// The costs that were found at a place.
-pub(crate) fn found_at(found: &[Option<Costs>], at: usize) -> Option<&Costs>
-    ensures { option_map (λ costs. costs.now) result ≡ if_there (slice_get found.now at) }
-{
-    match found.get(at)? {
-        Some(costs) => Some(costs),
-        None => None,
+        let shown = all_shown(alloc, self.alternatives, &told, &tested, dsts.len())?;
+        Ok(Found::new(told, shown))
     }
 }
 
@@ -177,46 +145,44 @@ fn tested_if_any<R: RowStore>(
     tested_from(alloc, rows, net, types, src, dsts, gaps)
 }
 
-/// The pairs at so many places of the costs.
+/// Which of so many places of the costs make a pair.
 fn all_shown(
     alloc: Global,
     alternatives: &[Vec<Constraint>],
     told: &Table,
     tested: &Table,
     count: usize,
-) -> Result<Vec<Option<Costs>>, AllocError>
-    ensures { IfOk result (λ pairs. pairs.items
-        ≡ map (shown_at (map (λ constraints. constraints.items) alternatives.now) told.now tested.now)
+) -> Result<Vec<bool>, AllocError>
+    ensures { IfOk result (λ shown. shown.items
+        ≡ map (is_shown (map (λ constraints. constraints.items) alternatives.now) told.now tested.now)
         (range_with_len 0 count)) }
 {
-    let mut pairs = Vec::with_capacity(alloc, count)?;
+    let mut shown = Vec::with_capacity(alloc, count)?;
     for at in 0..count {
-        pairs.push(shown_at(alloc, alternatives, told, tested, at)?)?;
+        shown.push(is_shown(alloc, alternatives, told, tested, at)?)?;
     }
-    Ok(pairs)
+    Ok(shown)
 }
 
-/// The pair at a place of the costs.
-fn shown_at(
+/// Whether the costs at a place make a pair.
+fn is_shown(
     alloc: Global,
     alternatives: &[Vec<Constraint>],
     told: &Table,
     tested: &Table,
     at: usize,
-) -> Result<Option<Costs>, AllocError>
-    ensures { IfOk result (λ pair. pair
-        ≡ shown_at (map (λ constraints. constraints.items) alternatives.now) told.now tested.now at) }
+) -> Result<bool, AllocError>
+    ensures { IfOk result (λ shown. shown
+        ≡ is_shown (map (λ constraints. constraints.items) alternatives.now) told.now tested.now at) }
 {
-    let costs = told.costs_at(alloc, at)?;
-    if !has_cost(&costs) {
-        return Ok(None);
+    if !told.has_cost(at) {
+        return Ok(false);
     }
-    if !one_is_empty(alternatives) {
-        if !one_holds(alternatives, &tested.costs_at(alloc, at)?) {
-            return Ok(None);
-        }
+    if one_is_empty(alternatives) {
+        return Ok(true);
     }
-    Ok(Some(Costs { costs }))
+    let costs = tested.costs_at(alloc, at)?;
+    Ok(one_holds(alternatives, &costs))
 }
 
 /// Whether one of the lists has no constraint, so that they hold of every pair.
@@ -229,13 +195,6 @@ fn one_is_empty(alternatives: &[Vec<Constraint>]) -> bool
         }
     }
     false
-}
-
-/// Whether there is a cost.
-fn has_cost(costs: &[Option<u64>]) -> bool
-    ensures { result ≡ list_any (λ cost. is_some cost) costs.now }
-{
-    costs.iter().any(|cost| cost.is_some())
 }
 
 /// Whether all constraints of one of the lists hold of a pair with these costs.

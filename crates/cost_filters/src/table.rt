@@ -1,18 +1,23 @@
 //! Costs by column, each column with one for each destination.
-ghost use Rattle.std.specs.Prelude.{◌≡◌, ◌++◌, [], ◌∷◌, IfOk, OnOk, map, option_map};
+ghost use Rattle.std.specs.Prelude.{◌≡◌, ◌++◌, [], ◌∷◌, IfOk, OnOk, map, option_map, slice_get};
 ghost use Rattle.std.specs.Cmp.Lexicographic.{slice_cmp};
 ghost use Rattle.std.specs.List.Sorted.{IsStrictlySortedBy};
 ghost use Rattle.std.specs.Ordering.{nat_cmp};
 ghost use Rattle.alto_rows.specs.Rows.{AreSorted};
+ghost use Rattle.alto_maps.specs.Writing.{AddsValue};
+ghost use Rattle.cost_docs.specs.CostMap.{number_data};
 ghost use Rattle.cost_filters.specs.Columns.{column_cost, scaled};
-ghost use Rattle.cost_filters.specs.Pairs.{costs_at, if_there, told_from, tested_from};
-ghost use Rattle.std.specs.Prelude.{slice_get};
+ghost use Rattle.cost_filters.specs.Filter.{costs_data};
+ghost use Rattle.cost_filters.specs.Pairs.{costs_at, has_cost, if_there, told_from, tested_from};
+ghost use Rattle.cost_filters.specs.Text.{AddsItems};
 
 use crate::columns::{Column, Scale, scaled};
 use crate::origin::Origin;
 use crate::types::CostType;
+use crate::writing::write_number;
 use alto_names::{NetName, PidName};
 use alto_rows::RowStore;
+use json::Writer;
 use std::alloc::{AllocError, Global};
 use std::marker::Model;
 
@@ -54,6 +59,25 @@ impl Table {
     {
         costs_at(alloc, &self.columns, at)
     }
+
+    /// Whether there is a cost at a place of the columns.
+    pub(crate) fn has_cost(&self, at: usize) -> bool
+        ensures { result ≡ has_cost (costs_at at self.now) }
+    {
+        has_cost(&self.columns, at)
+    }
+
+    /// Writes the costs at a place of the columns: in the form of several a list, else the one.
+    pub(crate) fn write_costs(
+        &self,
+        multi: bool,
+        at: usize,
+        out: &mut Writer,
+    ) -> Result<(), AllocError>
+        ensures { OnOk result (AddsValue (costs_data multi (costs_at at self.now)) out.old out.new) }
+    {
+        write_costs(&self.columns, multi, at, out)
+    }
 }
 
 fn costs_at(
@@ -74,6 +98,47 @@ fn cost_at(column: &[Option<u64>], at: usize) -> Option<u64>
     ensures { result ≡ if_there (slice_get column.now at) }
 {
     *column.get(at)?
+}
+
+fn has_cost(columns: &[Vec<Option<u64>>], at: usize) -> bool
+    ensures { result ≡ has_cost (costs_at at (map (λ column. column.items) columns.now)) }
+{
+    for column in columns {
+        if cost_at(column, at).is_some() {
+            return true;
+        }
+    }
+    false
+}
+
+fn write_costs(
+    columns: &[Vec<Option<u64>>],
+    multi: bool,
+    at: usize,
+    out: &mut Writer,
+) -> Result<(), AllocError>
+    ensures { OnOk result (AddsValue
+        (costs_data multi (costs_at at (map (λ column. column.items) columns.now))) out.old out.new) }
+{
+    if multi {
+        out.begin_array()?;
+        write_each(columns, at, out)?;
+        return out.end_array();
+    }
+    match columns.first() {
+        Some(column) => write_number(cost_at(column, at), out),
+        None => out.null(),
+    }
+}
+
+fn write_each(columns: &[Vec<Option<u64>>], at: usize, out: &mut Writer) -> Result<(), AllocError>
+    ensures { OnOk result (AddsItems
+        (map number_data (costs_at at (map (λ column. column.items) columns.now))) out.old out.new) }
+{
+    for column in columns {
+        write_number(cost_at(column, at), out)?;
+    }
+    Ok(())
 }
 
 /// The costs of columns from a source to destinations in byte order.

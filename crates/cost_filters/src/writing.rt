@@ -1,45 +1,17 @@
 //! Costs and cost types as JSON text.
-ghost use Rattle.std.specs.Prelude.{map, OnOk};
+ghost use Rattle.std.specs.Prelude.{◌≡◌, map, OnOk};
 ghost use Rattle.alto_maps.specs.Writing.{AddsMember, AddsValue};
 ghost use Rattle.cost_docs.specs.CostMap.{number_data};
-ghost use Rattle.cost_filters.specs.Filter.{costs_data, type_data, types_data, types_name};
+ghost use Rattle.cost_filters.specs.Filter.{mode_of, type_data, types_data, types_name};
 ghost use Rattle.cost_filters.specs.Text.{AddsItems};
 
 use crate::types::CostType;
-use crate::values::{mode_of, types_name};
 use json::Writer;
 use net_docs::write_text;
 use std::alloc::AllocError;
 
-/// Writes the costs of a pair: in the form of several a list, else the one.
-pub(crate) fn write_costs(
-    multi: bool,
-    costs: &[Option<u64>],
-    out: &mut Writer,
-) -> Result<(), AllocError>
-    ensures { OnOk result (AddsValue (costs_data multi costs.now) out.old out.new) }
-{
-    if multi {
-        out.begin_array()?;
-        write_numbers(costs, out)?;
-        return out.end_array();
-    }
-    match costs.first() {
-        Some(cost) => write_number(*cost, out),
-        None => out.null(),
-    }
-}
-
-fn write_numbers(costs: &[Option<u64>], out: &mut Writer) -> Result<(), AllocError>
-    ensures { OnOk result (AddsItems (map number_data costs.now) out.old out.new) }
-{
-    for cost in costs {
-        write_number(*cost, out)?;
-    }
-    Ok(())
-}
-
-fn write_number(cost: Option<u64>, out: &mut Writer) -> Result<(), AllocError>
+/// Writes a cost, null where there is none.
+pub(crate) fn write_number(cost: Option<u64>, out: &mut Writer) -> Result<(), AllocError>
     ensures { OnOk result (AddsValue (number_data cost) out.old out.new) }
 {
     match cost {
@@ -49,15 +21,22 @@ fn write_number(cost: Option<u64>, out: &mut Writer) -> Result<(), AllocError>
 }
 
 /// Writes the cost types with their name: in the form of several a list, else the one.
-pub(crate) fn write_types(
-    multi: bool,
-    types: &[CostType],
-    out: &mut Writer,
-) -> Result<(), AllocError>
+pub fn write_types(multi: bool, types: &[CostType], out: &mut Writer) -> Result<(), AllocError>
     ensures { OnOk result (AddsMember (types_name multi) (types_data multi types.now) out.old out.new) }
 {
     out.key(types_name(multi))?;
     write_types_data(multi, types, out)
+}
+
+/// The name of the member that tells the cost types.
+fn types_name(multi: bool) -> &'static str
+    ensures { result.now ≡ types_name multi }
+{
+    if multi {
+        "multi-cost-types"
+    } else {
+        "cost-type"
+    }
 }
 
 fn write_types_data(multi: bool, types: &[CostType], out: &mut Writer) -> Result<(), AllocError>
@@ -90,4 +69,11 @@ fn write_type(one: &CostType, out: &mut Writer) -> Result<(), AllocError>
     write_text(out, "cost-metric", one.metric.as_str())?;
     write_text(out, "cost-mode", mode_of(one))?;
     out.end_object()
+}
+
+/// The mode of a cost type.
+fn mode_of(one: &CostType) -> &'static str
+    ensures { result.now ≡ mode_of one.now }
+{
+    if one.ordinal { "ordinal" } else { "numerical" }
 }

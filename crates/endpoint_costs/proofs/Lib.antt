@@ -1,3 +1,3 @@
 pub mod ReadingLemmas
 pub mod OnceLemmas
-pub mod FoundLemmas
+pub mod SpotLemmas

@@ -45,7 +45,7 @@ behind text written (V4 number) e = sym (ap (drop 5) e)
 behind text written (V6 number) e = sym (ap (drop 5) e)
 
 -- a text writes one typed address at most
-one_typed_addr : (text : List ℕ) (one other : Addr) → WritesTypedAddr text one → WritesTypedAddr text other → one ≡ other
+pub one_typed_addr : (text : List ℕ) (one other : Addr) → WritesTypedAddr text one → WritesTypedAddr text other → one ≡ other
 one_typed_addr text one other h k =
     one_address (drop 5 text) one other (subst (λ t. IsAddrText t one) (behind text h.0 one h.1) h.2)
     (subst (λ t. IsAddrText t other) (behind text k.0 other k.1) k.2)

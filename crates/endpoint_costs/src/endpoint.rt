@@ -1,5 +1,8 @@
-ghost use Rattle.std.specs.Prelude.{◌≡◌, IfOk, option_map};
+ghost use Rattle.std.specs.Prelude.{◌≡◌, IfOk, IfSome, option_map};
+ghost use Rattle.std.specs.List.{AllByRecursion};
+ghost use Rattle.alto_rows.specs.Entities.{WritesTypedAddr, typed_addr_text};
 ghost use Rattle.endpoint_costs.specs.Costs.{addrs_at, endpoint_of, endpoints_of};
+ghost use Rattle.endpoint_costs.specs.Spots.{IsWritten};
 
 use alto_addr::Addr;
 use alto_names::PidName;
@@ -23,8 +26,9 @@ pub(crate) fn endpoints_at(
     given: &Option<Vec<Addr>>,
     peer: Option<Addr>,
 ) -> Result<Vec<Endpoint>, AllocError>
-    ensures { IfOk result (λ ends. ends.items
+    ensures are { IfOk result (λ ends. ends.items
         ≡ endpoints_of table.now (addrs_at (option_map (λ addrs. addrs.items) given.now) peer)) }
+    ensures written { IfOk result (λ ends. AllByRecursion (IsWritten table.now) ends.items) }
 {
     match given {
         Some(addrs) => endpoints_of(alloc, table, addrs),
@@ -41,11 +45,12 @@ fn endpoints_of(
     table: &RangeTable,
     addrs: &[Addr],
 ) -> Result<Vec<Endpoint>, AllocError>
-    ensures { IfOk result (λ ends. ends.items ≡ endpoints_of table.now addrs.now) }
+    ensures are { IfOk result (λ ends. ends.items ≡ endpoints_of table.now addrs.now) }
+    ensures written { IfOk result (λ ends. AllByRecursion (IsWritten table.now) ends.items) }
 {
     let mut ends = Vec::new(alloc);
     for addr in addrs {
-        if let Some(end) = endpoint_of(alloc, table, addr)? {
+        if let Some(end) = endpoint_of(alloc, table, *addr)? {
             ends.push(end)?;
         }
     }
@@ -56,15 +61,24 @@ fn endpoints_of(
 fn endpoint_of(
     alloc: Global,
     table: &RangeTable,
-    addr: &Addr,
+    addr: Addr,
 ) -> Result<Option<Endpoint>, AllocError>
-    ensures { IfOk result (λ end. end ≡ endpoint_of table.now addr.now) }
+    ensures is { IfOk result (λ end. end ≡ endpoint_of table.now addr) }
+    ensures written { IfOk result (λ end. IfSome end (IsWritten table.now)) }
 {
-    match table.pid_of(addr) {
+    match table.pid_of(&addr) {
         Some(pid) => Ok(Some(Endpoint {
-            text: print_typed_addr(alloc, addr)?,
+            text: text_of(alloc, addr)?,
             pid: pid.clone()?,
         })),
         None => Ok(None),
     }
+}
+
+/// What is written of an address behind its type, which reads as the address.
+fn text_of(alloc: Global, addr: Addr) -> Result<Name, AllocError>
+    ensures is { IfOk result (λ text. text ≡ typed_addr_text addr) }
+    ensures reads { IfOk result (λ text. WritesTypedAddr text addr) }
+{
+    print_typed_addr(alloc, &addr)
 }

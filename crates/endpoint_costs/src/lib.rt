@@ -14,9 +14,10 @@ mod addrs;
 mod ask;
 mod costs;
 mod endpoint;
+mod groups;
 mod laws;
-mod places;
+mod spots;
 
 pub use ask::{EndAsk, read_end_ask};
-pub use costs::endpoint_cost;
+pub use costs::endpoint_cost_text;
 pub use laws::body_asks_once;

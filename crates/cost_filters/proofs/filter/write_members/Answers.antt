@@ -1,8 +1,9 @@
-use Rattle.std.proofs.Common.{◌≡◌, ◌∷◌, ◌∙◌, ◌+◌, ap, drop, refl, subst}
+use Rattle.std.proofs.Common.{◌≡◌, ◌∷◌, ◌∙◌, ◌+◌, drop, refl, subst}
 use Rattle.std.proofs.lemmas.List.{drop_more}
-use Rattle.std.specs.Prelude.{Option, option_map}
-use Rattle.serde_json.specs.Data.{Data}
+use Rattle.std.specs.Prelude.{option_map, slice_get}
+use Rattle.alto_maps.specs.Shape.{Name}
 use Rattle.cost_filters.specs.Filter.{costs_data}
+use Rattle.cost_filters.specs.Pairs.{if_there}
 use Rattle.cost_filters.specs.Text.{AddsIfAny}
 use Rattle.cost_filters.proofs.TextLemmas.{any_before, shown_more}
 use Rattle.cost_filters.proofs.filter.write_members.Goals as goal
@@ -13,8 +14,10 @@ loop-at-preserved c =
     let dst = c.index-dsts-at.result in
     let dsts = c.args.dsts.now in
     let step : drop l.at dsts ≡ dst ∷ drop (l.at + 1) dsts = rw (drop_more dsts l.at dst c.loop-at-test.true, ← c.index-dsts-at.is) refl in
-    let added = subst (λ (value : Option Data). AddsIfAny dst value l.out c.write_member.new.out) (ap (option_map (costs_data c.args.multi)) c.found_at.ensures) c.in_ok-write_member.ensures in
+    let value = option_map (costs_data c.args.multi) (if_there (slice_get c.args.found.now l.at)) in
+    let added : AddsIfAny dst value l.out c.write_pair.new.out =
+    subst (λ (name : Name). AddsIfAny name value l.out c.write_pair.new.out) c.as_str.ensures c.in_ok-write_pair.ensures in
     record {
-      before = any_before dst _ l.out c.write_member.new.out added ∙ l.invariant.before;
-      tokens = shown_more c.args.multi dst (drop l.at dsts) (drop (l.at + 1) dsts) c.args.found.now l.at l.out c.write_member.new.out step added ∙ l.invariant.tokens;
+      before = any_before dst _ l.out c.write_pair.new.out added ∙ l.invariant.before;
+      tokens = shown_more c.args.multi dst (drop l.at dsts) (drop (l.at + 1) dsts) c.args.found.now l.at l.out c.write_pair.new.out step added ∙ l.invariant.tokens;
     }

@@ -1,9 +1,8 @@
 -- The pairs at the places of the costs are those of the destinations.
 use Rattle.std.proofs.Common.{◌∙◌, ap, map}
-use Rattle.std.proofs.lemmas.Result.{IfOk-weaker}
 use Rattle.std.specs.Prelude.{List}
 use Rattle.cost_filters.specs.declared.columns.Column.{Column}
-use Rattle.cost_filters.specs.Pairs.{PairsData, pair_costs, told_from}
+use Rattle.cost_filters.specs.Pairs.{PairsData, costs_shown, pair_costs, told_from}
 use Rattle.cost_filters.proofs.PairsLemmas.{all_pairs}
 use Rattle.cost_filters.proofs.pairs.Pairs.from.Goals as goal
 
@@ -19,10 +18,8 @@ returns g c =
     } in
     let src = c.args.src.now in
     let dsts = c.args.dsts.now in
-    IfOk-weaker c.all_shown.result _ _
-    (λ pairs is.
-    is
+    c.new.ensures
+    ∙ (ap (costs_shown c.in_ok-told.told 0) c.in_ok-shown.ensures
     ∙ (all_pairs inside src dsts c.self.inside.columns.items c.in_ok-told.told c.in_ok-tested.tested c.self.invariant.1
     (c.in_ok-told.ensures ∙ ap (λ (columns : List Column). told_from rows c.self.inside.net.now columns src dsts) c.deref.ensures.value) c.in_ok-tested.ensures
     ∙ ap (λ (asked : PairsData). map (pair_costs asked src) dsts) c.self.view_is))
-    c.all_shown.ensures
