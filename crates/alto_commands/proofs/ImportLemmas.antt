@@ -1,5 +1,6 @@
 -- What becomes of an import.
-use Rattle.std.proofs.Common.{◌≡◌, ◌≢◌, ℕ, List, Option, Result, Ok, Err, IfOk, IfErr, OnOk, OnErr, refl, sym, ◌∙◌, inl, inr}
+use Rattle.std.proofs.Common.{◌≡◌, ◌≢◌, ℕ, List, Option, Result, Ok, Err, IfOk, IfErr, OnOk, OnErr, refl, sym, ◌∙◌, inl}
+use Rattle.std.proofs.Common.{inr}
 use Rattle.alto_book.specs.Acceptance.{Outcome, accept}
 use Rattle.alto_book.specs.Book.{Book}
 use Rattle.alto_book.specs.Import.{Import}
@@ -19,14 +20,17 @@ use Rattle.alto_commands.specs.declared.fault.ImportFault.{ImportFault}
 use Rattle.alto_commands.specs.declared.fault.ImportFault.TheVariants as import_fault
 
 -- an outcome of an answer and a book
-outcome_is : (outcome : Outcome) (answer : Result Receipt EditFault) (later : Book) → outcome.answer ≡ answer → later ≡ outcome.book
+outcome_is : (outcome : Outcome) (answer : Result Receipt EditFault) (later : Book) → outcome.answer ≡ answer
+    → later ≡ outcome.book
     → outcome ≡ record { answer = answer; book = later }
 outcome_is outcome answer later answered same = rw (← answered, same) refl
 
 -- a desk's answer is acceptance's, or tells that the batch couldn't be kept
 pub decided_so : (r : Result Receipt EditFault) (book later : Book) (import : Import) (moment : ℕ)
-    → IfOk r (λ receipt. (accept book import moment).answer ≡ Ok receipt) → OnOk r (later ≡ (accept book import moment).book)
-    → IfErr r (λ why. why ≢ edit_fault.Memory → why ≢ edit_fault.Keeper → (accept book import moment).answer ≡ Err why) → OnErr r (later ≡ book)
+    → IfOk r (λ receipt. (accept book import moment).answer ≡ Ok receipt)
+    → OnOk r (later ≡ (accept book import moment).book)
+    → IfErr r (λ why. why ≢ edit_fault.Memory → why ≢ edit_fault.Keeper → (accept book import moment).answer ≡ Err why)
+    → OnErr r (later ≡ book)
     → Decides r book import moment later
 decided_so (Ok receipt) book later import moment told gained refused stayed = outcome_is _ _ _ told gained
 decided_so (Err edit_fault.Keeper) book later import moment told gained refused stayed = stayed
@@ -39,19 +43,23 @@ decided_so (Err (edit_fault.Broken row rule)) book later import moment told gain
     outcome_is _ _ _ answered (stayed ∙ sym (refused_leaves book import moment (edit_fault.Broken row rule) answered))
 
 -- an import that is accepted
-pub takes_accepted : (id : List ℕ) (form : Form) (time : Option ℕ) (book later : Book) (receipt : Receipt) (left left' : Option (List ℕ))
+pub takes_accepted : (id : List ℕ) (form : Form) (time : Option ℕ) (book later : Book) (receipt : Receipt)
+    (left left' : Option (List ℕ))
     → IsDecided id form time book (Ok receipt) later left left' → Takes id form time book (Ok receipt) later left left'
 unfolding Takes
 takes_accepted id form time book later receipt left left' decided = decided
 
 -- one that isn't
-pub takes_refused : (id : List ℕ) (form : Form) (time : Option ℕ) (book later : Book) (why : EditFault) (left left' : Option (List ℕ))
-    → IsDecided id form time book (Err why) later left left' → Takes id form time book (Err (import_fault.Edit why)) later left left'
+pub takes_refused : (id : List ℕ) (form : Form) (time : Option ℕ) (book later : Book) (why : EditFault)
+    (left left' : Option (List ℕ))
+    → IsDecided id form time book (Err why) later left left'
+    → Takes id form time book (Err (import_fault.Edit why)) later left left'
 unfolding Takes
 takes_refused id form time book later why left left' decided = decided
 
 -- one that isn't made
-pub takes_unmade : (id : List ℕ) (form : Form) (time : Option ℕ) (book : Book) (why : ImportFault) (left left' : Option (List ℕ))
+pub takes_unmade : (id : List ℕ) (form : Form) (time : Option ℕ) (book : Book) (why : ImportFault)
+    (left left' : Option (List ℕ))
     → IsUnmade form why left left' → Takes id form time book (Err why) book left left'
 unfolding Takes
 takes_unmade id form time book (import_fault.Body why) left left' unmade = (unmade, refl)
@@ -70,14 +78,16 @@ closed_faults (Err (import_fault.Edit (edit_fault.OtherBody m))) result counted 
 closed_faults (Err (import_fault.Edit (edit_fault.Broken row rule))) result counted n count told = rw count (told n)
 
 -- a book is found
-pub imports_so : (clean : Type 0) (id : List ℕ) (form : Form) (time : Option ℕ) (result : ℕ) (held held' : StoredData → Type 0)
+pub imports_so : (clean : Type 0) (id : List ℕ) (form : Form) (time : Option ℕ) (result : ℕ)
+    (held held' : StoredData → Type 0)
     (left out left' out' : Option (List ℕ)) → IsImported clean id form time result held held' left out left' out'
     → Imports clean id form time result held held' left out left' out'
 unfolding Imports
 imports_so clean id form time result held held' left out left' out' imported = inl imported
 
 -- none is
-pub imports_none : (clean : Type 0) (id : List ℕ) (form : Form) (time : Option ℕ) (result : ℕ) (held held' : StoredData → Type 0)
+pub imports_none : (clean : Type 0) (id : List ℕ) (form : Form) (time : Option ℕ) (result : ℕ)
+    (held held' : StoredData → Type 0)
     (left out left' out' : Option (List ℕ)) (why : OpenFault)
     → (clean → (stored : StoredData) → held stored → Explains why stored) → Tells (open_report why) result out out'
     → (clean → Stays held held') → left' ≡ left → Imports clean id form time result held held' left out left' out'

@@ -16,13 +16,16 @@ use Rattle.alto_commands.specs.Status.{faults_at}
 use Rattle.alto_commands.specs.Stores.{open_report}
 
 -- an office that knows the book alone serves from it
-pub served_from : (book : Book) (ended : End) (first known : Known) (time : Option ℕ) (turns : ℕ) (left out left' out' : Option (List ℕ))
+pub served_from : (book : Book) (ended : End) (first known : Known) (time : Option ℕ) (turns : ℕ)
+    (left out left' out' : Option (List ℕ))
     → first ≡ at_first book
-    → Serves ended (setting_of (client_of side.Both None) time true turns) (state first left out) (state known left' out')
+    → Serves ended (setting_of (client_of side.Both None) time true turns) (state first left out)
+    (state known left' out')
     → ServesConsole book ended known time turns left out left' out'
 unfolding ServesConsole
 served_from book ended first known time turns left out left' out' new served =
-    subst (λ (first : Known). Serves ended (setting_of (client_of side.Both None) time true turns) (state first left out) (state known left' out'))
+    subst (λ (first : Known). Serves ended (setting_of (client_of side.Both None) time true turns)
+    (state first left out) (state known left' out'))
     new served
 
 -- a new office knows the book that it is over
@@ -31,14 +34,17 @@ pub new_office : (book seen : Book) (looks waits faults : ℕ) → seen ≡ book
 new_office book seen looks waits faults same no_look no_wait no_fault = rw (same, no_look, no_wait, no_fault) refl
 
 -- a console is served
-pub pipes_so : (clean : Type 0) (result : ℕ) (time : Option ℕ) (turns : ℕ) (held held' : StoredData → Type 0) (faults faults' : ℕ)
-    (left out left' out' : Option (List ℕ)) → IsPiped clean result time turns held held' faults faults' left out left' out'
+pub pipes_so : (clean : Type 0) (result : ℕ) (time : Option ℕ) (turns : ℕ) (held held' : StoredData → Type 0)
+    (faults faults' : ℕ)
+    (left out left' out' : Option (List ℕ))
+    → IsPiped clean result time turns held held' faults faults' left out left' out'
     → Pipes clean result time turns held held' faults faults' left out left' out'
 unfolding Pipes
 pipes_so clean result time turns held held' faults faults' left out left' out' piped = inl piped
 
 -- no book is opened
-pub pipes_none : (clean : Type 0) (result : ℕ) (time : Option ℕ) (turns : ℕ) (held held' : StoredData → Type 0) (faults faults' : ℕ)
+pub pipes_none : (clean : Type 0) (result : ℕ) (time : Option ℕ) (turns : ℕ) (held held' : StoredData → Type 0)
+    (faults faults' : ℕ)
     (left out left' out' : Option (List ℕ)) (why : OpenFault)
     → (clean → (stored : StoredData) → held stored → Explains why stored) → Tells (open_report why) result out out'
     → (clean → Stays held held') → faults' ≡ faults_at result faults → left' ≡ left

@@ -14,14 +14,16 @@ use Rattle.alto_commands.specs.Stores.{Finds, open_report}
 -- records that stand for one book are the same
 pub stored_once : (one other : StoredData) (book : Book) → StoredAs one book → StoredAs other book → one ≡ other
 stored_once one other book a b =
-    let base : opening_rows a.epoch a.window ≡ opening_rows b.epoch b.window = ap (λ (book : Book). book.base) (sym a.began ∙ b.began) in
+    let base : opening_rows a.epoch a.window ≡ opening_rows b.epoch b.window =
+    ap (λ (book : Book). book.base) (sym a.began ∙ b.began) in
     let first : (key.Epoch, value.Text a.epoch) ≡ (key.Epoch, value.Text b.epoch) = cc in
     let second : (key.Window, value.Num a.window) ≡ (key.Window, value.Num b.window) = cc in
     let text : value.Text a.epoch ≡ value.Text b.epoch = ap (λ (row : Key × Value). row.1) first in
     let number : value.Num a.window ≡ value.Num b.window = ap (λ (row : Key × Value). row.1) second in
     let epoch : a.epoch ≡ b.epoch = cc in
     let window : a.window ≡ b.window = cc in
-    let spelled : records_of a.epoch a.window book.batches ≡ records_of b.epoch b.window book.batches = rw (epoch, window) refl in
+    let spelled : records_of a.epoch a.window book.batches ≡ records_of b.epoch b.window book.batches =
+    rw (epoch, window) refl in
     a.spelled ∙ (spelled ∙ sym b.spelled)
 
 -- the book that was opened is the one that was held
@@ -31,7 +33,8 @@ unfolding Finds
 finds clean held book opened = opened
 
 -- what was held stays, where what is held stands for the book that was found
-pub stays_for_book : (clean : Type 0) (held held' : StoredData → Type 0) (book later : Book) → later ≡ book → Finds clean held book
+pub stays_for_book : (clean : Type 0) (held held' : StoredData → Type 0) (book later : Book) → later ≡ book
+    → Finds clean held book
     → (clean → (stored : StoredData) → held stored → Backs held' later) → clean → Stays held held'
 unfolding Finds
 stays_for_book clean held held' book later same found kept is stored was =

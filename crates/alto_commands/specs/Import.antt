@@ -26,7 +26,8 @@ use Rattle.alto_commands.specs.declared.fault.ImportFault.TheVariants as import_
 
 -- a body doesn't read: at this row and column, 0 for a number that the fault doesn't have
 abbrev pub bad_form : ℕ → ℕ → Report
-bad_form row column = says 11 (codes "bad form row " ++ (decimal row ++ (codes " column " ++ (decimal column ++ line_end))))
+bad_form row column =
+    says 11 (codes "bad form row " ++ (decimal row ++ (codes " column " ++ (decimal column ++ line_end))))
 
 -- why a body doesn't read
 abbrev pub form_report : FormFault → Report
@@ -39,7 +40,8 @@ form_report form_fault.Memory = silent 1
 -- why an import isn't accepted
 abbrev pub edit_report : EditFault → Report
 edit_report (edit_fault.OtherBody n) = says 12 (codes "other body n " ++ (decimal n ++ line_end))
-edit_report (edit_fault.Broken row rule) = says 7 (codes "refused row " ++ (decimal row ++ (codes " rule " ++ (name_of rule ++ line_end))))
+edit_report (edit_fault.Broken row rule) =
+    says 7 (codes "refused row " ++ (decimal row ++ (codes " rule " ++ (name_of rule ++ line_end))))
 edit_report edit_fault.Keeper = silent 3
 edit_report edit_fault.Memory = silent 1
 
@@ -91,9 +93,11 @@ pub record IsDecided (id : List ℕ) (form : Form) (time : Option ℕ) (book : B
 unfoldable pub Takes : List ℕ → Form → Option ℕ → Book → Result Receipt ImportFault → Book
     → Option (List ℕ) → Option (List ℕ) → Type 0
 Takes id form time book (Ok receipt) later left left' = IsDecided id form time book (Ok receipt) later left left'
-Takes id form time book (Err (import_fault.Edit why)) later left left' = IsDecided id form time book (Err why) later left left'
+Takes id form time book (Err (import_fault.Edit why)) later left left' =
+    IsDecided id form time book (Err why) later left left'
 Takes id form time book (Err (import_fault.Body why)) later left left' = IsNoBody why left left' × (later ≡ book)
-Takes id form time book (Err (import_fault.Form why)) later left left' = IsMalformed form why left left' × (later ≡ book)
+Takes id form time book (Err (import_fault.Form why)) later left left' =
+    IsMalformed form why left left' × (later ≡ book)
 
 -- the counts of failed reads of a console, and of faults of a keeper, after that
 abbrev pub reads_after : {T : Type 0} → Result T ImportFault → ℕ → ℕ
@@ -106,9 +110,10 @@ faults_after _ n = n
 
 -- ---- the command
 
--- a book is found, what becomes of the import there is told, and what is held stands for the book then. Where the import
--- isn't accepted, what was held stays
-pub record IsImported (clean : Type 0) (id : List ℕ) (form : Form) (time : Option ℕ) (result : ℕ) (held held' : StoredData → Type 0)
+-- a book is found, what becomes of the import there is told, and what is held stands for the book then. Where the
+-- import isn't accepted, what was held stays
+pub record IsImported (clean : Type 0) (id : List ℕ) (form : Form) (time : Option ℕ) (result : ℕ)
+    (held held' : StoredData → Type 0)
     (left out left' out' : Option (List ℕ)) : Type 0 where
   pub book : Book
   pub answer : Result Receipt ImportFault
@@ -119,7 +124,8 @@ pub record IsImported (clean : Type 0) (id : List ℕ) (form : Form) (time : Opt
   pub kept : clean → (stored : StoredData) → held stored → Backs held' later
   pub refused : OnErr answer (clean → Stays held held')
 
--- what `import` comes to, by what was held at the store and is, and by the bytes that a console had left and out and has
+-- what `import` comes to, by what was held at the store and is, and by the bytes that a console had left and out and
+-- has
 unfoldable pub Imports : Type 0 → List ℕ → Form → Option ℕ → ℕ → (StoredData → Type 0) → (StoredData → Type 0)
     → Option (List ℕ) → Option (List ℕ) → Option (List ℕ) → Option (List ℕ) → Type 0
 Imports clean id form time result held held' left out left' out' =

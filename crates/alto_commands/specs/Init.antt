@@ -25,13 +25,14 @@ abbrev pub IsTaken : InitFault → StoredData → Type 0
 IsTaken why stored = why ≡ fault.Already → stored ≢ nothing
 
 -- nothing was held, and the row of the epoch and the window is
-pub record IsBegun (clean : Type 0) (epoch : List ℕ) (window : ℕ) (result : ℕ) (held held' : StoredData → Type 0)
+pub record IsInitialised (clean : Type 0) (epoch : List ℕ) (window : ℕ) (result : ℕ) (held held' : StoredData → Type 0)
     (out out' : Option (List ℕ)) : Type 0 where
   pub begun : clean → (stored : StoredData) → held stored → (stored ≡ nothing) × held' (records_of epoch window [])
   pub told : Tells (begun_report epoch window) result out out'
 
 -- no store is begun, and why is told. What was held stays
-pub record IsUnbegun (clean : Type 0) (result : ℕ) (held held' : StoredData → Type 0) (out out' : Option (List ℕ)) : Type 0 where
+pub record IsNotInitialised (clean : Type 0) (result : ℕ) (held held' : StoredData → Type 0)
+    (out out' : Option (List ℕ)) : Type 0 where
   pub why : InitFault
   pub explained : clean → (stored : StoredData) → held stored → IsTaken why stored
   pub told : Tells (init_report why) result out out'
@@ -41,4 +42,4 @@ pub record IsUnbegun (clean : Type 0) (result : ℕ) (held held' : StoredData �
 unfoldable pub Begins : Type 0 → List ℕ → ℕ → ℕ → (StoredData → Type 0) → (StoredData → Type 0)
     → Option (List ℕ) → Option (List ℕ) → Type 0
 Begins clean epoch window result held held' out out' =
-    IsBegun clean epoch window result held held' out out' ⊎ IsUnbegun clean result held held' out out'
+    IsInitialised clean epoch window result held held' out out' ⊎ IsNotInitialised clean result held held' out out'

@@ -19,8 +19,8 @@ says status text = record { status = status; text = text }
 abbrev pub silent : ℕ → Report
 silent status = record { status = status; text = [] }
 
--- a report is made, with this status, on a console with these bytes out before and after: the text is out, and the status
--- is the report's; or a write failed inside the text, 5; or memory for the text ran out, 1
+-- a report is made, with this status, on a console with these bytes out before and after: the text is out, and the
+-- status is the report's; or a write failed inside the text, 5; or memory for the text ran out, 1
 unfoldable pub Tells : Report → ℕ → Option (List ℕ) → Option (List ℕ) → Type 0
 Tells report result out out' =
     ((result ≡ report.status) × (out' ≡ extended out report.text))

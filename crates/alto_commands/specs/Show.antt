@@ -19,7 +19,8 @@ show_report (Some document) = says 0 (document ++ line_end)
 show_report None = says 8 (codes "unknown resource" ++ line_end)
 
 -- a book is found, and the document is shown that a text names in it
-pub record IsShown (clean : Type 0) (text : List ℕ) (result : ℕ) (held : StoredData → Type 0) (out out' : Option (List ℕ))
+pub record IsShown (clean : Type 0) (text : List ℕ) (result : ℕ) (held : StoredData → Type 0)
+    (out out' : Option (List ℕ))
     : Type 0 where
   pub book : Book
   pub found : Finds clean held book

@@ -17,12 +17,14 @@ Finds clean held book = clean → (stored : StoredData) → held stored → Stor
 abbrev pub open_report : OpenFault → Report
 open_report (fault.Damaged n) = says 9 (codes "damaged row " ++ (decimal n ++ line_end))
 open_report (fault.DamagedBase k) = says 9 (codes "damaged base " ++ (decimal k ++ line_end))
-open_report (fault.BadBook n rule) = says 9 (codes "bad book row " ++ (decimal n ++ (codes " rule " ++ (name_of rule ++ line_end))))
+open_report (fault.BadBook n rule) =
+    says 9 (codes "bad book row " ++ (decimal n ++ (codes " rule " ++ (name_of rule ++ line_end))))
 open_report fault.Keeper = silent 3
 open_report fault.Memory = silent 1
 
 -- no book is opened of what was held, and why is told
-pub record IsUnopened (clean : Type 0) (held : StoredData → Type 0) (result : ℕ) (out out' : Option (List ℕ)) : Type 0 where
+pub record IsUnopened (clean : Type 0) (held : StoredData → Type 0) (result : ℕ)
+    (out out' : Option (List ℕ)) : Type 0 where
   pub why : OpenFault
   pub explained : clean → (stored : StoredData) → held stored → Explains why stored
   pub told : Tells (open_report why) result out out'

@@ -33,5 +33,6 @@ pub use beginning::init;
 pub use edit_forms::Form;
 pub use importing::import;
 pub use piping::pipe;
+pub use saying::say;
 pub use showing::show;
 pub use store::{open_book, say_unopened};

@@ -6,8 +6,8 @@ ghost use Rattle.alto_commands.specs.Status.{writes_at};
 use alto_http::{Link, write_all};
 use std::alloc::AllocError;
 
-/// Prints a text, and gives the status, or 5 where a write fails.
-pub(crate) fn say<L: Link>(console: &mut L, text: &[u8], status: u8) -> u8
+/// Prints a text, and gives the status, or 5 where a write fails. It costs one pass over the text.
+pub fn say<L: Link>(console: &mut L, text: &[u8], status: u8) -> u8
     requires { status ≢ 5 }
     ensures told { Tells (record { status = status; text = text.now }) result (L.out console.old) (L.out console.new) }
     ensures writes { L.failed_writes console.new ≡ writes_at result (L.failed_writes console.old) }

@@ -7,7 +7,8 @@ use Rattle.alto_commands.proofs.beginning.init.Goals as goal
 
 pub returns-in_default-clause-begun : goal.returns-in_default-clause-begun
 returns-in_default-clause-begun g c =
-    begins_none _ _ _ _ _ _ _ _ fault.Memory (λ clean stored was is same. cc) (told_nothing (init_report fault.Memory) _) (λ clean stored was. was)
+    begins_none _ _ _ _ _ _ _ _ fault.Memory (λ clean stored was is same. cc)
+    (told_nothing (init_report fault.Memory) _) (λ clean stored was. was)
 
 pub returns-in-Ok-begin-clause-begun : goal.returns-in-Ok-begin-clause-begun
 returns-in-Ok-begin-clause-begun g c =

@@ -11,7 +11,8 @@ use Rattle.alto_commands.proofs.importing.import.Goals as goal
 
 pub returns-in-Err-clause-imported : goal.returns-in-Err-clause-imported
 returns-in-Err-clause-imported g c =
-    imports_none _ _ _ _ _ _ _ _ _ _ _ c.in-Err.fault c.in-Err.ensures.refused c.say_unopened.ensures.told c.in-Err.ensures.stays
+    imports_none _ _ _ _ _ _ _ _ _ _ _ c.in-Err.fault c.in-Err.ensures.refused
+    c.say_unopened.ensures.told c.in-Err.ensures.stays
     c.say_unopened.ensures.left
 
 pub returns-in-Err-clause-faults : goal.returns-in-Err-clause-faults
@@ -48,7 +49,9 @@ returns-clause-imported g c =
       taken = rw c.say_answer.ensures.left took.taken;
       told = rw (← took.out) c.say_answer.ensures.told;
       kept = kept;
-      refused = on_err_weaker c.take_in-answer.result (λ same. stays_for_book clean held held' book later same found kept) took.refused;
+      refused =
+          on_err_weaker c.take_in-answer.result
+          (λ same. stays_for_book clean held held' book later same found kept) took.refused;
     })
 
 pub returns-clause-faults : goal.returns-clause-faults

@@ -8,7 +8,8 @@ use Rattle.alto_commands.proofs.piping.pipe.Goals as goal
 
 pub returns-in-Err-clause-piped : goal.returns-in-Err-clause-piped
 returns-in-Err-clause-piped g c =
-    pipes_none _ _ _ _ _ _ _ _ _ _ _ _ c.in-Err.fault c.in-Err.ensures.refused c.say_unopened.ensures.told c.in-Err.ensures.stays
+    pipes_none _ _ _ _ _ _ _ _ _ _ _ _ c.in-Err.fault c.in-Err.ensures.refused
+    c.say_unopened.ensures.told c.in-Err.ensures.stays
     (c.in-Err.ensures.counted ∙ c.say_unopened.ensures.faults _) c.say_unopened.ensures.left
 
 pub returns-in-Err-clause-reads : goal.returns-in-Err-clause-reads
@@ -32,10 +33,15 @@ returns-clause-piped g c =
       kept = λ clean stored was.
           let both = c.close.ensures.clean clean in
           let opened = c.in-Ok.ensures.opened both.0 (c.serve-end.ensures.clean both.1) stored was in
-          let backs = served.kept both.1 (stored, opened.0, opened.1) in
-          (backs.0, c.close.ensures.kept clean stored (c.in-Ok.ensures.stays both.0 stored was) backs.0 backs.1, backs.2);
+          let backs = served.kept both.1 (stored, opened.0, opened.1) in (
+            backs.0,
+            c.close.ensures.kept clean stored
+                (c.in-Ok.ensures.stays both.0 stored was) backs.0 backs.1,
+            backs.2,
+          );
       counted = (
         g.V.Keeper.Keeper.faults c.serve-end.result.1,
-        c.close.ensures.counted ∙ ap (faults_closed (g.V.Keeper.Keeper.faults c.serve-end.result.1)) c.in-Ok.ensures.same,
+        c.close.ensures.counted ∙ ap
+            (faults_closed (g.V.Keeper.Keeper.faults c.serve-end.result.1)) c.in-Ok.ensures.same,
       );
     })

@@ -15,8 +15,11 @@ returns-clause-served g c =
         numbers = [];
         waited = None;
       };
-      served = served_from c.args.desk.ledger.book _ _ _ _ _ _ _ _ _ (new_office _ _ _ _ _ (rw new.desk refl) new.looks new.waits new.tally) c.serve_conn-end.ensures.served;
+      served =
+          served_from c.args.desk.ledger.book _ _ _ _ _ _ _ _ _
+          (new_office _ _ _ _ _ (rw new.desk refl) new.looks new.waits new.tally) c.serve_conn-end.ensures.served;
       kept = λ clean backed.
           let back = c.serve_conn-end.ensures.backed (λ _. rw new.desk backed) in
-          rw (c.into_keeper.ensures, c.into_desk.ensures) (back (rw (c.into_keeper.ensures, c.into_desk.ensures) at clean));
+          rw (c.into_keeper.ensures, c.into_desk.ensures)
+          (back (rw (c.into_keeper.ensures, c.into_desk.ensures) at clean));
     }

@@ -8,13 +8,15 @@ use Rattle.alto_commands.proofs.StoreLemmas.{finds}
 use Rattle.alto_commands.proofs.showing.show.Goals as goal
 
 pub returns-in-Err-clause-shown : goal.returns-in-Err-clause-shown
-returns-in-Err-clause-shown g c = shows_none _ _ _ _ _ _ c.in-Err.fault c.in-Err.ensures.refused c.say_unopened.ensures.told
+returns-in-Err-clause-shown g c =
+    shows_none _ _ _ _ _ _ c.in-Err.fault c.in-Err.ensures.refused c.say_unopened.ensures.told
 
 pub returns-in-Err-clause-faults : goal.returns-in-Err-clause-faults
 returns-in-Err-clause-faults g c = c.in-Err.ensures.counted ∙ c.say_unopened.ensures.faults _
 
 pub document_line-text-requires : goal.document_line-text-requires
-document_line-text-requires g c = rw (c.deref.ensures, c.front.ensures.stands.current) (good_rows _ c.front.ensures.legal)
+document_line-text-requires g c =
+    rw (c.deref.ensures, c.front.ensures.stands.current) (good_rows _ c.front.ensures.legal)
 
 pub returns-in-Ok-text-clause-shown : goal.returns-in-Ok-text-clause-shown
 returns-in-Ok-text-clause-shown g c =
