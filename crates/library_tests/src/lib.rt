@@ -14,6 +14,8 @@ mod constraints;
 #[cfg(test)]
 mod desks;
 #[cfg(test)]
+mod doors;
+#[cfg(test)]
 mod forms;
 #[cfg(test)]
 mod graphs;
@@ -21,6 +23,8 @@ mod graphs;
 mod limits;
 #[cfg(test)]
 mod links;
+#[cfg(test)]
+mod lookups;
 #[cfg(test)]
 mod merging;
 #[cfg(test)]
