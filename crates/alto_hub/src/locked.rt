@@ -56,7 +56,8 @@ impl<W: Wait + Drop, K: Keeper + Drop, J: Naming> Model for Locked<W, K, J> {
 
     ghost invariant = { λ locked. IsLocked J.name J.opening locked.desk.ledger.book locked.head locked.mark
         (log_of locked.publisher.pen.desk.shown.value) locked.owed
-        × (J.backed → K.is_clean locked.desk.keeper → Backs (K.holds locked.desk.keeper) locked.desk.ledger.book) };
+        × (K.is_clean locked.desk.keeper
+        → J.was_clean × (J.backed → Backs (K.holds locked.desk.keeper) locked.desk.ledger.book)) };
 }
 
 impl<W: Wait + Drop, K: Keeper + Drop, J: Naming> Locked<W, K, J> {

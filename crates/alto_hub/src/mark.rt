@@ -61,7 +61,7 @@ pub type Head = Word<Submission, u64, Law>;
 /// An import that may be added to a history.
 pub type Ask = Offer<Submission, u64, Law, Nothing>;
 
-/// Which history a hub has, and what it was opened over. A caller picks all three.
+/// Which history a hub has, and what it was opened over. A caller picks all four.
 pub trait Naming {
     ghost use Rattle.logbook.specs.Pages.{Book as Name};
     ghost use Rattle.alto_book.specs.Book.{Book};
@@ -71,6 +71,9 @@ pub trait Naming {
 
     /// The book before its first import.
     ghost opening: { Book };
+
+    /// That nothing had put the records in doubt then.
+    ghost was_clean: { Type 0 };
 
     /// What has to hold for the records to have stood for that book.
     ghost backed: { Type 0 };
@@ -83,6 +86,8 @@ impl Naming for Brand {
     ghost name = { record { number = 0; log_name = 0; cells_name = 0 } };
 
     ghost opening = { opening_book [] 0 };
+
+    ghost was_clean = { Unit {0} };
 
     ghost backed = { ⊥ };
 }

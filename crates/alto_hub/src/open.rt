@@ -40,7 +40,8 @@ impl<W: Wait + Drop, K: Keeper + Drop, J: Naming> Hub<W, K, J> {
     ) -> Result<(Hub<W, K, J>, Vec<Place<J>>), AllocError>
         requires name { history ≡ J.name }
         requires opening { desk.ledger.book ≡ J.opening }
-        requires backed { J.backed → K.is_clean desk.keeper → Backs (K.holds desk.keeper) desk.ledger.book }
+        requires backed { K.is_clean desk.keeper
+            → J.was_clean × (J.backed → Backs (K.holds desk.keeper) desk.ledger.book) }
         requires seats { (0 < seats) × (seats ≤ 128) }
         ensures { IfOk result (λ opened. (length opened.1.items ≡ seats)
             × All (λ place. place ≡ newcomer) opened.1.items) }
@@ -66,11 +67,12 @@ impl<W: Wait + Drop, K: Keeper + Drop, J: Naming> Hub<W, K, J> {
         Ok((hub, places))
     }
 
-    /// The desk again, once nobody reads a version from a place. Its book came from the opening one by imports, and what is kept stands for it if it did so then,
-    /// while nothing has put it in doubt.
+    /// The desk again, once nobody reads a version from a place. Its book came from the opening one by imports. Where
+    /// nothing has put in doubt what is kept, nothing had when the hub was opened, and it stands for the book if it did then.
     pub fn into_desk(self) -> Desk<K, Chunks>
         ensures grown { IsGrown result.ledger.book J.opening }
-        ensures backed { J.backed → K.is_clean result.keeper → Backs (K.holds result.keeper) result.ledger.book }
+        ensures backed { K.is_clean result.keeper
+            → J.was_clean × (J.backed → Backs (K.holds result.keeper) result.ledger.book) }
     {
         let Hub { locked } = self;
         let Locked {

@@ -30,8 +30,8 @@ fn seen_from_another<J: Naming + Send + Sync, R: Threads + Wait + Abort + Sync>(
 ) -> Result<(), Fail>
     requires name { history ≡ J.name }
     requires opening { desk.ledger.book ≡ J.opening }
-    requires backed { J.backed → ⟦<MemKeeper as Keeper>⟧.is_clean desk.keeper
-        → Backs (⟦<MemKeeper as Keeper>⟧.holds desk.keeper) desk.ledger.book }
+    requires backed { ⟦<MemKeeper as Keeper>⟧.is_clean desk.keeper
+        → J.was_clean × (J.backed → Backs (⟦<MemKeeper as Keeper>⟧.holds desk.keeper) desk.ledger.book) }
 {
     let (hub, mut places) = Hub::<&R, MemKeeper, J>::open(alloc, rt, history, desk, 2)?;
     let first = places.pop().ok_or("a place")?;

@@ -1,1 +1,3 @@
 mod CountLemmas
+mod KeptLemmas
+pub mod StatusLemmas

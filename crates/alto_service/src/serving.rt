@@ -1,8 +1,8 @@
-ghost use Rattle.std.specs.Prelude.{◌≡◌, ◌≢◌, ◌⊎◌, ◌<◌, ◌≤◌, ℕ, List, All, true, length, IfOk};
-ghost use Rattle.alto_keeper.specs.Stored.{Stays};
+ghost use Rattle.std.specs.Prelude.{◌≡◌, ◌≢◌, ◌⊎◌, ◌<◌, ◌≤◌, ℕ, List, All, true, length, IfOk, MatchOption};
+ghost use Rattle.alto_keeper.specs.Stored.{Stays, one_more};
 ghost use Rattle.alto_commands.specs.Status.{writes_at};
 ghost use Rattle.alto_doors.specs.Door.{is_served, just_opened};
-ghost use Rattle.alto_service.specs.Serving.{AllServed, EndsDoors, EndsServing, ServesStore};
+ghost use Rattle.alto_service.specs.Serving.{AllServed, BacksLater, EndsDoors, EndsServing, ServesStore};
 ghost use Rattle.alto_desk.specs.Records.{Backs};
 
 use crate::doors::{SideDoor, open_doors};
@@ -56,11 +56,13 @@ pub fn serve<
 ) -> u8
     requires at_least { 1 ≤ plan.now.workers }
     requires at_most { plan.now.workers ≤ 64 }
-    ensures served { ServesStore (V.is_clean vault.new) plan.now.workers result (V.holds vault.old plan.now.store.now)
+    ensures served { ServesStore (V.is_clean vault.new) plan.now.workers result
+        (V.holds vault.old plan.now.store.now) (V.holds vault.new plan.now.store.now)
         (D.counts doors.old) (D.counts doors.new) (L.out console.old) (L.out console.new) }
     ensures others { V.is_clean vault.new → (other : List ℕ) → other ≢ plan.now.store.now
         → Stays (V.holds vault.old other) (V.holds vault.new other) }
     ensures clean { V.is_clean vault.new → V.is_clean vault.old }
+    ensures counted { result ≡ 3 → V.faults vault.new ≡ one_more (V.faults vault.old) }
 
     ensures left { L.left console.new ≡ L.left console.old }
     ensures reads { L.failed_reads console.new ≡ L.failed_reads console.old }
@@ -71,8 +73,10 @@ pub fn serve<
         Err(fault) => return say_unopened(alloc, console, fault),
     };
     let (status, keeper) = serve_desk(rt, alloc, desk, doors, bell, clock, plan);
-    if let Some(keeper) = keeper {
-        vault.close(plan.store, keeper);
+    match keeper {
+        Some(keeper) => vault.close(plan.store, keeper),
+        // It was given up, out of memory.
+        None => {}
     }
     status
 }
@@ -95,7 +99,9 @@ fn serve_desk<
 ) -> (u8, Option<K>)
     requires at_least { 1 ≤ plan.now.workers }
     requires at_most { plan.now.workers ≤ 64 }
-    ensures { EndsServing plan.now.workers result.0 (D.counts doors.old) (D.counts doors.new) }
+    ensures ends { EndsServing plan.now.workers result.0 (D.counts doors.old) (D.counts doors.new) }
+    ensures kept { MatchOption result.1 (result.0 ≡ 1) (λ keeper. K.is_clean keeper → K.is_clean desk.keeper
+        × (Backs (K.holds desk.keeper) desk.ledger.book → BacksLater (K.holds keeper) desk.ledger.book)) }
 {
     match open_doors(alloc, doors, plan) {
         Ok(all) => serve_doors::<Brand, _, _, _, _, _>(
@@ -135,11 +141,14 @@ fn serve_doors<
 ) -> (u8, Option<K>)
     requires name { history ≡ J.name }
     requires opening { desk.ledger.book ≡ J.opening }
-    requires backed { J.backed → K.is_clean desk.keeper → Backs (K.holds desk.keeper) desk.ledger.book }
+    requires backed { K.is_clean desk.keeper
+        → J.was_clean × (J.backed → Backs (K.holds desk.keeper) desk.ledger.book) }
     requires some { 0 < length all.items }
     requires few { length all.items ≤ 128 }
     requires fresh { All (λ one. D.Door.state one.door ≡ just_opened) all.items }
-    ensures { EndsDoors (length all.items) result.0 (D.counts doors.old) (D.counts doors.new) }
+    ensures ends { EndsDoors (length all.items) result.0 (D.counts doors.old) (D.counts doors.new) }
+    ensures kept { MatchOption result.1 (result.0 ≡ 1) (λ keeper. K.is_clean keeper
+        → J.was_clean × (J.backed → BacksLater (K.holds keeper) J.opening)) }
 {
     let count = all.len() as u32;
     let Ok((hub, places)) = Hub::<&H, K, J>::open(alloc, rt, history, desk, count) else {

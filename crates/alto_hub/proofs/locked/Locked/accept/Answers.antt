@@ -34,7 +34,9 @@ invariant_of-self-2 g c =
       locked_more _ _ book _ _ mark _ _ _ c.args.submission c.self.invariant.0 c.requires
           (subst (λ (s : Submitted). c.edit.new.self.ledger.book ≡ (accept book s.0 s.1).book) c.submission.view_is c.in_ok-receipt.ensures.accepted)
           (c.add.ensures ∙ ap after c.ask-ask.ensures.import),
-      λ backed clean. c.in_ok-receipt.ensures.kept clean (c.self.invariant.1 backed (c.in_ok-receipt.ensures.clean clean)),
+      λ clean.
+          let before = c.self.invariant.1 (c.in_ok-receipt.ensures.clean clean) in
+          (before.0, λ backed. c.in_ok-receipt.ensures.kept clean (before.1 backed)),
     )
 
 -- ---- refused
@@ -57,5 +59,7 @@ returns-in_err-receipt-clause-tally g c =
 pub invariant_of-self : goal.invariant_of-self
 invariant_of-self g c = (
   locked_stays _ _ _ _ _ _ _ _ c.self.invariant.0 c.in_err-receipt.ensures.unchanged,
-  λ backed clean. c.in_err-receipt.ensures.kept clean (c.self.invariant.1 backed (c.in_err-receipt.ensures.clean clean)),
+  λ clean.
+      let before = c.self.invariant.1 (c.in_err-receipt.ensures.clean clean) in
+      (before.0, λ backed. c.in_err-receipt.ensures.kept clean (before.1 backed)),
 )
