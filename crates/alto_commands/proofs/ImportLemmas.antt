@@ -11,11 +11,14 @@ use Rattle.alto_book.proofs.AcceptanceLemmas.{refused_leaves}
 use Rattle.alto_desk.specs.Opening.{Explains}
 use Rattle.alto_desk.specs.declared.fault.OpenFault.{OpenFault}
 use Rattle.alto_keeper.specs.Stored.{StoredData, Stays, faults_closed}
+use Rattle.edit_forms.specs.declared.fault.FormFault.TheVariants as form_fault
 use Rattle.edit_forms.specs.declared.form.Form.{Form}
 use Rattle.alto_commands.specs.Import.{Decides, Imports, IsDecided, IsImported, IsUnmade, Takes, faults_after}
+use Rattle.alto_commands.specs.Import.{import_report}
 use Rattle.alto_commands.specs.Reports.{Tells}
 use Rattle.alto_commands.specs.Status.{faults_at}
 use Rattle.alto_commands.specs.Stores.{open_report}
+use Rattle.alto_commands.specs.declared.fault.BodyFault.TheVariants as body_fault
 use Rattle.alto_commands.specs.declared.fault.ImportFault.{ImportFault}
 use Rattle.alto_commands.specs.declared.fault.ImportFault.TheVariants as import_fault
 
@@ -94,3 +97,20 @@ pub imports_none : (clean : Type 0) (id : List ℕ) (form : Form) (time : Option
 unfolding Imports
 imports_none clean id form time result held held' left out left' out' why explained told stays same =
     inr (record { why = why; explained = explained; told = told }, stays, same)
+
+-- the statuses of `import`: a number that none of them is isn't one
+pub import_status : (at : ℕ) → 0 ≢ at → 1 ≢ at → 3 ≢ at → 4 ≢ at → 7 ≢ at → 11 ≢ at → 12 ≢ at → 13 ≢ at
+    → (answer : Result Receipt ImportFault) → (import_report answer).status ≢ at
+import_status at n0 n1 n3 n4 n7 n11 n12 n13 (Ok receipt) = n0
+import_status at n0 n1 n3 n4 n7 n11 n12 n13 (Err (import_fault.Body body_fault.TooLarge)) = n13
+import_status at n0 n1 n3 n4 n7 n11 n12 n13 (Err (import_fault.Body body_fault.ReadFault)) = n4
+import_status at n0 n1 n3 n4 n7 n11 n12 n13 (Err (import_fault.Body body_fault.Memory)) = n1
+import_status at n0 n1 n3 n4 n7 n11 n12 n13 (Err (import_fault.Form form_fault.Syntax)) = n11
+import_status at n0 n1 n3 n4 n7 n11 n12 n13 (Err (import_fault.Form form_fault.Empty)) = n11
+import_status at n0 n1 n3 n4 n7 n11 n12 n13 (Err (import_fault.Form (form_fault.BadRecord row))) = n11
+import_status at n0 n1 n3 n4 n7 n11 n12 n13 (Err (import_fault.Form (form_fault.BadColumn row column))) = n11
+import_status at n0 n1 n3 n4 n7 n11 n12 n13 (Err (import_fault.Form form_fault.Memory)) = n1
+import_status at n0 n1 n3 n4 n7 n11 n12 n13 (Err (import_fault.Edit (edit_fault.OtherBody n))) = n12
+import_status at n0 n1 n3 n4 n7 n11 n12 n13 (Err (import_fault.Edit (edit_fault.Broken row rule))) = n7
+import_status at n0 n1 n3 n4 n7 n11 n12 n13 (Err (import_fault.Edit edit_fault.Keeper)) = n3
+import_status at n0 n1 n3 n4 n7 n11 n12 n13 (Err (import_fault.Edit edit_fault.Memory)) = n1
