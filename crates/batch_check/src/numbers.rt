@@ -54,8 +54,8 @@ fn is_room_for(writes: &[Write], past: Past) -> bool
         && u64::from(past.writes) + count as u64 <= MOST_WRITES_KEPT
 }
 
-/// Whether good rows are within the numbers.
-fn are_within<R: RowStore>(rows: &R) -> Result<bool, AllocError>
+/// Whether good rows are within the numbers. Two searches for each declared network and metric.
+pub fn are_within<R: RowStore>(rows: &R) -> Result<bool, AllocError>
     requires { AreGood (R.rows rows.now) }
     ensures { IfOk result (λ within. Decides within (AreWithin (R.rows rows.now))) }
 {

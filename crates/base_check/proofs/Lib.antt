@@ -1,0 +1,4 @@
+pub mod ReceiptLemmas
+pub mod RowLemmas
+pub mod NumberedLemmas
+pub mod RuleLemmas

@@ -1,0 +1,4 @@
+pub mod Rules
+pub mod Fit
+pub mod Numbered
+pub mod Receipts
