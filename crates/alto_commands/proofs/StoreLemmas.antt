@@ -1,30 +1,12 @@
 -- Records that stand for a book.
-use Rattle.std.proofs.Common.{◌≡◌, ◌≢◌, refl, sym, ◌∙◌, ap, subst}
-use Rattle.alto_rows.specs.declared.key.Key.{Key}
-use Rattle.alto_rows.specs.declared.key.Key.TheVariants as key
-use Rattle.alto_rows.specs.declared.value.Value.{Value}
-use Rattle.alto_rows.specs.declared.value.Value.TheVariants as value
-use Rattle.alto_book.specs.Book.{Book, opening_rows}
-use Rattle.alto_desk.specs.Records.{Backs, StoredAs, records_of}
+use Rattle.std.proofs.Common.{◌≡◌, ◌≢◌, subst}
+use Rattle.alto_book.specs.Book.{Book}
+use Rattle.alto_desk.specs.Records.{Backs, StoredAs}
+use Rattle.alto_desk.proofs.RecordLemmas.{stored_once}
 use Rattle.alto_keeper.specs.Stored.{StoredData, Stays}
 use Rattle.alto_desk.specs.declared.fault.OpenFault.{OpenFault}
 use Rattle.alto_desk.specs.declared.fault.OpenFault.TheVariants as fault
 use Rattle.alto_commands.specs.Stores.{Finds, open_report}
-
--- records that stand for one book are the same
-pub stored_once : (one other : StoredData) (book : Book) → StoredAs one book → StoredAs other book → one ≡ other
-stored_once one other book a b =
-    let base : opening_rows a.epoch a.window ≡ opening_rows b.epoch b.window =
-    ap (λ (book : Book). book.base) (sym a.began ∙ b.began) in
-    let first : (key.Epoch, value.Text a.epoch) ≡ (key.Epoch, value.Text b.epoch) = cc in
-    let second : (key.Window, value.Num a.window) ≡ (key.Window, value.Num b.window) = cc in
-    let text : value.Text a.epoch ≡ value.Text b.epoch = ap (λ (row : Key × Value). row.1) first in
-    let number : value.Num a.window ≡ value.Num b.window = ap (λ (row : Key × Value). row.1) second in
-    let epoch : a.epoch ≡ b.epoch = cc in
-    let window : a.window ≡ b.window = cc in
-    let spelled : records_of a.epoch a.window book.batches ≡ records_of b.epoch b.window book.batches =
-    rw (epoch, window) refl in
-    a.spelled ∙ (spelled ∙ sym b.spelled)
 
 -- the book that was opened is the one that was held
 pub finds : (clean : Type 0) (held : StoredData → Type 0) (book : Book)

@@ -1,6 +1,6 @@
 -- `init`: a store is begun.
-use Rattle.std.specs.Prelude.{◌≡◌, ◌≢◌, ◌⊎◌, ℕ, List, [], ◌++◌, Option, codes, decimal}
-use Rattle.alto_desk.specs.Records.{records_of}
+use Rattle.std.specs.Prelude.{◌≡◌, ◌≢◌, ◌⊎◌, ℕ, List, ◌++◌, Option, codes, decimal}
+use Rattle.alto_desk.specs.Records.{first_records}
 use Rattle.alto_desk.specs.declared.fault.InitFault.{InitFault}
 use Rattle.alto_desk.specs.declared.fault.InitFault.TheVariants as fault
 use Rattle.alto_keeper.specs.Stored.{StoredData, Stays, nothing}
@@ -27,7 +27,7 @@ IsTaken why stored = why ≡ fault.Already → stored ≢ nothing
 -- nothing was held, and the row of the epoch and the window is
 pub record IsInitialised (clean : Type 0) (epoch : List ℕ) (window : ℕ) (result : ℕ) (held held' : StoredData → Type 0)
     (out out' : Option (List ℕ)) : Type 0 where
-  pub begun : clean → (stored : StoredData) → held stored → (stored ≡ nothing) × held' (records_of epoch window [])
+  pub begun : clean → (stored : StoredData) → held stored → (stored ≡ nothing) × held' (first_records epoch window)
   pub told : Tells (begun_report epoch window) result out out'
 
 -- no store is begun, and why is told. What was held stays

@@ -1,7 +1,7 @@
 //! The command `init`: begins a store.
-ghost use Rattle.std.specs.Prelude.{◌≡◌, ◌≢◌, ◌≤◌, ℕ, List, [], Err, IfOk, OnErr, OnOk, string_bytes};
+ghost use Rattle.std.specs.Prelude.{◌≡◌, ◌≢◌, ◌≤◌, ℕ, List, Err, IfOk, OnErr, OnOk, string_bytes};
 ghost use Rattle.alto_desk.specs.Counts.{after_init};
-ghost use Rattle.alto_desk.specs.Records.{records_of};
+ghost use Rattle.alto_desk.specs.Records.{first_records};
 ghost use Rattle.alto_keeper.specs.Stored.{StoredData, Stays, nothing};
 ghost use Rattle.alto_commands.specs.Init.{Begins, init_report, initialised};
 ghost use Rattle.alto_commands.specs.Reports.{Tells};
@@ -76,7 +76,7 @@ fn begin<V: Vault>(
     requires at_most { window ≤ 32 }
 
     ensures done { OnOk result (V.is_clean vault.new → (stored : StoredData) → V.holds vault.old store.now stored
-        → (stored ≡ nothing) × V.holds vault.new store.now (records_of epoch.now window [])) }
+        → (stored ≡ nothing) × V.holds vault.new store.now (first_records epoch.now window)) }
     ensures already { result ≡ Err InitFault.Already → V.is_clean vault.new → (stored : StoredData)
         → V.holds vault.old store.now stored → stored ≢ nothing }
     ensures refused { OnErr result (V.is_clean vault.new

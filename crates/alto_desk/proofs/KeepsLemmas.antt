@@ -1,27 +1,127 @@
--- What a ledger keeps, at its start and after a batch.
-use Rattle.std.proofs.Common.{◌≡◌, ℕ, ◌+◌, ◌≤◌, List, [], ◌∷◌, ◌++◌, length, refl, sym, length-append}
-use Rattle.alto_names.specs.Name.{IsEpoch}
+-- What a ledger keeps, at its base and after a batch.
+use Rattle.std.proofs.Common.{◌≡◌, ℕ, ◌+◌, ◌≤◌, ◌<◌, List, [], ◌∷◌, ◌++◌, length, map, Some, refl, ap, sym, ◌∙◌, subst, suc, zero, arith, length-append}
+use Rattle.std.proofs.lemmas.List.{append-nil, length-map, map-append}
+use Rattle.std.proofs.lemmas.Option.{same_Some}
+use Rattle.std.specs.Prelude.{◌^◌, slice_get, true}
+use Rattle.std.specs.BTreeSet.{BTreeSet, Updates}
+use Rattle.std.proofs.lemmas.List.Elements.{recursion_from_All}
+use Rattle.std.specs.List.{AllByRecursion, IsDistinct}
+use Rattle.std.specs.declared.cmp.Ordering.TheVariants.{Less}
 use Rattle.alto_rows.specs.Accepted.{Accepted}
+use Rattle.alto_rows.specs.declared.key.Key.{Key}
+use Rattle.alto_rows.specs.declared.key.Key.TheVariants as key
+use Rattle.alto_rows.specs.declared.value.Value.{Value}
+use Rattle.alto_rows.specs.declared.value.Value.TheVariants as value
 use Rattle.alto_rows.specs.Good.{AreGood}
-use Rattle.alto_rows.specs.Rows.{Rows, after}
+use Rattle.alto_rows.specs.Order.{key_cmp, kind_of, name_cmp, same_name}
+use Rattle.alto_rows.specs.Rows.{Rows, AreSorted, after}
+use Rattle.alto_rows.proofs.RowsLemmas.{ArePast, sorted_more}
 use Rattle.alto_book.specs.Acceptance.{with_batch}
-use Rattle.alto_book.specs.Book.{Book, opening_book, opening_rows, writes_in}
-use Rattle.alto_book.specs.Legal.{IsLegal}
-use Rattle.alto_book.proofs.GrownLemmas.{writes_in-grown}
-use Rattle.alto_book.proofs.OpeningLemmas.{legal_opening}
+use Rattle.alto_book.specs.Book.{Book, Kept, all_kept, kept_of, opening_rows, writes_in}
+use Rattle.alto_book.specs.Legal.{IsLegal, NeverFall}
+use Rattle.alto_book.proofs.GrownLemmas.{all_kept-grown, writes_in-grown}
 use Rattle.alto_book.proofs.StateLemmas.{good_rows}
 use Rattle.alto_versions.specs.Course.{CourseData, Follows}
 use Rattle.alto_versions.specs.Front.{Version, StandsFor}
 use Rattle.alto_versions.proofs.CourseLemmas.{rows_of-with_batch}
-use Rattle.alto_desk.specs.Ledger.{HasRead, Keeps, book_kept}
+use Rattle.base_check.specs.Receipts.{HasIds}
+use Rattle.base_check.specs.Rules as judged
+use Rattle.base_check.specs.Rules.{KeepsRule, ids_of}
+use Rattle.base_check.proofs.ReceiptLemmas.{ids_more}
+use Rattle.base_code.specs.Bases.{AreStored, KeptData, write_of}
+use Rattle.batch_code.specs.Storable.{IsStored}
+use Rattle.alto_desk.specs.Ledger.{HasRead, Keeps, book_kept, receipt_of}
 
--- a new book that is being read
-pub read_opening : (epoch : List ℕ) (window : ℕ) (base : Rows) (batches : List Accepted) (course : CourseData)
-    → IsEpoch epoch → 2 ≤ window → window ≤ 32
-    → base ≡ opening_rows epoch window → batches ≡ [] → Follows course (opening_book epoch window)
-    → HasRead (book_kept base batches) 0 course
-read_opening epoch window base batches course is low high opened empty follows =
-    rw (opened, empty) (record { legal = legal_opening epoch window is low high; counted = refl; follows = follows })
+-- ---- rows behind those of a new book
+
+-- keys of a base are behind the epoch and the window
+epoch_before : (at : Key) → 3 ≤ kind_of at → key_cmp key.Epoch at ≡ Less
+unfolding key_cmp
+epoch_before key.Epoch h = absurd (omega arith)
+epoch_before key.Window h = absurd (omega arith)
+epoch_before _ h = refl
+
+window_before : (at : Key) → 3 ≤ kind_of at → key_cmp key.Window at ≡ Less
+unfolding key_cmp
+window_before key.Epoch h = absurd (omega arith)
+window_before key.Window h = absurd (omega arith)
+window_before _ h = refl
+
+all_behind : (low : Key) → ((at : Key) → 3 ≤ kind_of at → key_cmp low at ≡ Less) → (rows : Rows) → AllByRecursion (λ row. IsStored (write_of row)) rows
+    → ArePast low rows
+all_behind low before [] all = tt
+all_behind low before (row ∷ rows) all = (before row.0 all.0.stored, all_behind low before rows all.1)
+
+-- so rows that can be stored stand behind those of a new book
+pub sorted_behind : (epoch : List ℕ) (window : ℕ) (rows : Rows) → AreStored rows → AreSorted (opening_rows epoch window ++ rows)
+unfolding key_cmp
+sorted_behind epoch window rows stored =
+    sorted_more (key.Epoch, value.Text epoch) ((key.Window, value.Num window) ∷ rows) (refl, all_behind key.Epoch epoch_before rows all)
+    (sorted_more (key.Window, value.Num window) rows (all_behind key.Window window_before rows all) stored.sorted)
+  where
+    all : AllByRecursion (λ row. IsStored (write_of row)) rows
+    all = recursion_from_All (λ (row : Key × Value). IsStored (write_of row)) rows stored.each
+
+-- ---- a book at its base
+
+-- the ids of receipts are those that the book keeps
+ids_kept : (receipts : List KeptData) → map (λ (kept : Kept). kept.id) (map receipt_of receipts) ≡ ids_of receipts
+ids_kept [] = refl
+ids_kept (kept ∷ receipts) = ap (λ (ids : List (List ℕ)). kept.id ∷ ids) (ids_kept receipts)
+
+-- and of a book without batches behind its base they are all
+pub all_ids : (base : Rows) (receipts : List KeptData) → map (λ (kept : Kept). kept.id) (all_kept (book_kept base receipts [])) ≡ ids_of receipts
+all_ids base receipts = ap (map (λ (kept : Kept). kept.id)) (append-nil (map receipt_of receipts)) ∙ ids_kept receipts
+
+-- what a book keeps at a place is of the receipt at that place
+record HasReceipt (receipts : List KeptData) (n : ℕ) (kept : Kept) : Type 0 where
+  receipt : KeptData
+  there : slice_get receipts n ≡ Some receipt
+  is : receipt_of receipt ≡ kept
+
+receipt_at : (receipts : List KeptData) (n : ℕ) (kept : Kept) → slice_get (map receipt_of receipts) n ≡ Some kept → HasReceipt receipts n kept
+receipt_at [] n kept h = cc
+receipt_at (receipt ∷ receipts) zero kept h = record { receipt = receipt; there = refl; is = same_Some (receipt_of receipt) kept h }
+receipt_at (receipt ∷ receipts) (suc n) kept h =
+    let below : HasReceipt receipts n kept = receipt_at receipts n kept h in
+    record { receipt = below.receipt; there = below.there; is = below.is }
+
+-- moments that never fall in receipts never fall in the book
+moments_kept : (receipts : List KeptData) → judged.NeverFall receipts → NeverFall (map receipt_of receipts)
+moments_kept receipts falls m n earlier later le h g =
+    let a : HasReceipt receipts m earlier = receipt_at receipts m earlier h in
+    let b : HasReceipt receipts n later = receipt_at receipts n later g in
+    rw (← a.is, ← b.is) (falls m n a.receipt b.receipt le a.there b.there)
+
+-- a book whose base keeps its rule is legal
+pub legal_base : (base : Rows) (receipts : List KeptData) → KeepsRule base receipts → length receipts < 2 ^ 62 → IsLegal (book_kept base receipts [])
+legal_base base receipts keeps small = record {
+  base = record {
+    good = keeps.base.good;
+    within = keeps.base.within;
+    versions = λ of. rw (length-map receipts receipt_of) (keeps.base.versions of);
+  };
+  small = rw (length-map receipts receipt_of) small;
+  each = λ n batch h. cc;
+  ids = subst (IsDistinct same_name) (sym (all_ids base receipts)) keeps.kept.ids;
+  moments = subst NeverFall (sym (append-nil (map receipt_of receipts))) (moments_kept receipts keeps.kept.moments);
+  batches = omega arith;
+  writes = omega arith;
+}
+
+-- it is a book that is being read
+pub read_base : (base : Rows) (receipts : List KeptData) (batches : List Accepted) (ids : BTreeSet (List ℕ)) (course : CourseData)
+    → KeepsRule base receipts → length receipts < 2 ^ 62 → batches ≡ [] → HasIds (ids_of receipts) ids → Follows course (book_kept base receipts [])
+    → HasRead (book_kept base receipts batches) 0 ids course
+read_base base receipts batches ids course keeps small empty has follows =
+    rw empty (record {
+      legal = legal_base base receipts keeps small;
+      counted = refl;
+      ids = subst (λ (all : List (List ℕ)). HasIds all ids) (sym (all_ids base receipts)) has;
+      follows = follows;
+    })
+
+-- ---- one batch more
 
 -- the count of writes after one batch more
 counted_more : (book : Book) (batch : Accepted) (writes len : ℕ) → writes ≡ length (writes_in book.batches)
@@ -40,14 +140,23 @@ keeps_more book batch writes len batches old version keeps legal more own stands
     (record { legal = legal; counted = counted_more book batch writes len keeps.counted own; stands = stands })
 
 -- the same of a book that is being read
-pub read_more : (book : Book) (batch : Accepted) (writes len : ℕ) (batches : List Accepted) (old course : CourseData)
-    → HasRead book writes old → IsLegal (with_batch book batch)
+pub read_more : (book : Book) (batch : Accepted) (writes len : ℕ) (batches : List Accepted) (ids ids' : BTreeSet (List ℕ)) (old course : CourseData)
+    → HasRead book writes ids old → IsLegal (with_batch book batch)
     → batches ≡ book.batches ++ batch ∷ [] → len ≡ length batch.writes
+    → Updates name_cmp ids ids' batch.id true
     → Follows course (with_batch book batch)
-    → HasRead (record { base = book.base; receipts = book.receipts; batches = batches }) (writes + len) course
-read_more book batch writes len batches old course read legal more own follows =
+    → HasRead (record { base = book.base; receipts = book.receipts; batches = batches }) (writes + len) ids' course
+read_more book batch writes len batches ids ids' old course read legal more own updates follows =
     rw more
-    (record { legal = legal; counted = counted_more book batch writes len read.counted own; follows = follows })
+    (record {
+      legal = legal;
+      counted = counted_more book batch writes len read.counted own;
+      ids = subst (λ (all : List (List ℕ)). HasIds all ids') (sym grown) (ids_more _ batch.id ids ids' read.ids updates);
+      follows = follows;
+    })
+  where
+    grown : map (λ (kept : Kept). kept.id) (all_kept (with_batch book batch)) ≡ map (λ (kept : Kept). kept.id) (all_kept book) ++ batch.id ∷ []
+    grown = ap (map (λ (kept : Kept). kept.id)) (all_kept-grown book batch) ∙ map-append (λ (kept : Kept). kept.id) (all_kept book) (kept_of batch ∷ [])
 
 -- the rows after a batch that the book may take are good
 pub good_more : (book : Book) (batch : Accepted) (writes : ℕ) (version : Version) → Keeps book writes version

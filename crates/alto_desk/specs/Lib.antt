@@ -1,5 +1,7 @@
 pub mod Ledger
 pub mod Records
+pub mod Pieces
 pub mod Opening
+pub mod Known
 pub mod Counts
 pub mod Faults

@@ -1,7 +1,7 @@
-ghost use Rattle.std.specs.Prelude.{◌≡◌, ◌≢◌, ◌≤◌, [], Err, MatchBool, OnErr, OnOk};
+ghost use Rattle.std.specs.Prelude.{◌≡◌, ◌≢◌, ◌≤◌, Err, MatchBool, OnErr, OnOk};
 ghost use Rattle.alto_keeper.specs.Stored.{StoredData, Stays, nothing};
 ghost use Rattle.alto_desk.specs.Counts.{after_init};
-ghost use Rattle.alto_desk.specs.Records.{records_of};
+ghost use Rattle.alto_desk.specs.Records.{first_records};
 
 use crate::fault::InitFault;
 use alto_keeper::{Keeper, Stored};
@@ -21,7 +21,7 @@ pub fn init<K: Keeper>(
 
     ensures clean { K.is_clean keeper.new → K.is_clean keeper.old }
     ensures done { OnOk result (K.is_clean keeper.new → (stored : StoredData) → K.holds keeper.old stored
-        → (stored ≡ nothing) × K.holds keeper.new (records_of epoch.now window [])) }
+        → (stored ≡ nothing) × K.holds keeper.new (first_records epoch.now window)) }
     ensures already { result ≡ Err InitFault.Already → K.is_clean keeper.new → (stored : StoredData)
         → K.holds keeper.old stored → stored ≢ nothing }
     ensures refused { OnErr result (K.is_clean keeper.new → Stays (K.holds keeper.old) (K.holds keeper.new)) }

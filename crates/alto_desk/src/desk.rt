@@ -11,7 +11,6 @@ ghost use Rattle.alto_desk.specs.Opening.{Explains};
 ghost use Rattle.alto_desk.specs.Records.{Backs, StoredAs};
 
 use crate::fault::OpenFault;
-use crate::known::answer_known;
 use crate::ledger::Ledger;
 use crate::opening::opened;
 use crate::records::read_records;
@@ -80,7 +79,7 @@ impl<K: Keeper + Drop, R: RowStore> Desk<K, R> {
     /// batch is in the book exactly where the keeper took it: its version is made, and there is room for it, before the
     /// keeper is called.
     ///
-    /// Costs what `compile` and the store's `with` cost, one look at each batch that is kept, two searches for each
+    /// Costs what `compile` and the store's `with` cost, one look at each receipt and batch, two searches for each
     /// declared resource, whose graph the next version shares, a look at each write for each network, a range table
     /// for each network whose prefixes are written, and the bytes of the batch.
     pub fn edit(
@@ -110,8 +109,8 @@ impl<K: Keeper + Drop, R: RowStore> Desk<K, R> {
     {
         // The version says that the book is legal.
         let _version = self.ledger.front();
-        if let Some((n, batch)) = self.ledger.find(&command) {
-            return answer_known(n, batch, &command);
+        if let Some(answer) = self.ledger.answer_if_known(&command) {
+            return answer;
         }
         self.accept_new(alloc, command, moment, tally)
     }
@@ -186,6 +185,6 @@ fn read_ledger<K: Keeper, R: RowStore>(
     ensures counted { IfErr result (λ fault. K.faults keeper.new ≡ after_fault fault (K.faults keeper.old)) }
 {
     let stored = keeper.load(alloc)?;
-    let records = read_records(alloc, &stored)?;
+    let records = read_records(alloc, stored)?;
     opened(alloc, records)
 }

@@ -18,11 +18,12 @@ pub enum InitFault {
 pub enum OpenFault {
     /// The keeper refused, and counted it.
     Keeper,
-    /// The first row whose number isn't its place, or whose bytes aren't those of its place; 0 where nothing is stored.
+    /// The first row that isn't in its place, by the number that it should have: 0, and from that behind the base on.
+    /// Its number is another, or its bytes aren't those of its place. 0 where there is no row.
     Damaged(u64),
-    /// The records have a base, which can't be read yet.
+    /// The first piece of the base that isn't in its place, or, where each is and more are wanted, how many there are.
     DamagedBase(u64),
-    /// The first batch that breaks a rule of the book, and the first rule that it breaks.
+    /// The base with 0, or else the first batch, that breaks a rule of the book, and the first rule that it breaks.
     BadBook(u64, BookRule),
     /// Out of memory.
     Memory,

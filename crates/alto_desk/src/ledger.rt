@@ -1,20 +1,22 @@
-ghost use Rattle.std.specs.Prelude.{◌≡◌, ◌≢◌, ◌+◌, ◌<◌, ℤ, pos, None, Ok, Err, All, IfErr, IfOk, OnOk, length, map, option_map};
+ghost use Rattle.std.specs.Prelude.{◌≡◌, ◌≢◌, ◌+◌, ◌<◌, ℤ, pos, None, Ok, Err, All, IfErr, IfOk, OnOk, length, map};
 ghost use Rattle.std.specs.Arc.{arc_value};
 ghost use Rattle.alto_edits.specs.Compiled.{compiled};
 ghost use Rattle.alto_edits.specs.Edits.{IsEdit};
 ghost use Rattle.alto_book.specs.Acceptance.{accept, batch_of, past_of, with_batch};
 ghost use Rattle.alto_book.specs.Acceptance as spec;
-ghost use Rattle.alto_book.specs.Book.{all_kept, kept_of, number_of, rows_of};
+ghost use Rattle.alto_book.specs.Book.{all_kept, number_of, rows_of};
 ghost use Rattle.alto_book.specs.Legal.{IsLegal};
 ghost use Rattle.alto_versions.specs.Front.{StandsFor};
 ghost use Rattle.batch_code.specs.Storable.{IsStorable};
+ghost use Rattle.alto_desk.specs.Known as told;
 
-use crate::known::{batch_of, known, last_moment};
+use crate::known::{answer_if_known, batch_of, last_moment};
 use alto_book::{Command, EditFault, Receipt};
 use alto_edits::{CompileFault, Past};
 use alto_rows::{Batch, RowStore, Write};
 use alto_rules::compile;
 use alto_versions::Front;
+use base_code::Kept;
 use std::alloc::{AllocError, Global};
 use std::marker::Model;
 use std::sync::Arc;
@@ -24,6 +26,7 @@ use std::sync::Arc;
 #[derive(Drop)]
 pub(crate) struct Ledger<R: RowStore> {
     pub(crate) base: Arc<R>,
+    pub(crate) receipts: Vec<Kept>,
     pub(crate) batches: Vec<Arc<Batch>>,
     pub(crate) writes: u32,
     pub(crate) front: Arc<Front<R>>,
@@ -37,12 +40,12 @@ impl<R: RowStore> Model for Ledger<R> {
     ghost Value = { LedgerData };
 
     ghost view = { λ ledger. record {
-      book = book_kept (R.rows (arc_value ledger.base)) (map arc_value ledger.batches.items);
+      book = book_kept (R.rows (arc_value ledger.base)) ledger.receipts.items (map arc_value ledger.batches.items);
       room = vec_capacity ledger.batches;
     } };
 
     ghost invariant = { λ ledger.
-        Keeps (book_kept (R.rows (arc_value ledger.base)) (map arc_value ledger.batches.items))
+        Keeps (book_kept (R.rows (arc_value ledger.base)) ledger.receipts.items (map arc_value ledger.batches.items))
         ledger.writes (arc_value ledger.front) };
 }
 
@@ -62,19 +65,18 @@ impl<R: RowStore> Ledger<R> {
         &self.batches
     }
 
-    /// The batch that has the import's id, with its number.
-    pub(crate) fn find(&self, command: &Command) -> Option<(u64, &Batch)>
-        ensures { option_map (λ found. (found.0, kept_of found.1.now)) result
-            ≡ spec.known (all_kept self.now.book) command.now.id }
+    /// What an import is answered whose id has a batch. It looks at each receipt and batch once.
+    pub(crate) fn answer_if_known(&self, command: &Command) -> Option<Result<Receipt, EditFault>>
+        ensures { result ≡ told.answer_if_known (all_kept self.now.book) command.now }
     {
-        known(&self.batches, &command.id)
+        answer_if_known(&self.receipts, &self.batches, command)
     }
 
     /// The number of the next batch.
     pub(crate) fn next_number(&self) -> i64
         ensures { result ≡ pos (number_of self.now.book + 1) }
     {
-        self.batches.len() as i64 + 1
+        self.receipts.len() as i64 + self.batches.len() as i64 + 1
     }
 
     /// The batch of an import that is new.
@@ -142,7 +144,7 @@ impl<R: RowStore> Ledger<R> {
     fn last_moment(&self) -> u64
         ensures { result ≡ spec.last_moment (all_kept self.now.book) }
     {
-        last_moment(&self.batches)
+        last_moment(&self.receipts, &self.batches)
     }
 
     /// The rows after all batches.

@@ -1,6 +1,6 @@
-ghost use Rattle.std.specs.Prelude.{◌≡◌, ◌≤◌, IfOk, []};
+ghost use Rattle.std.specs.Prelude.{◌≡◌, ◌≤◌, IfOk};
 ghost use Rattle.alto_book.specs.Book.{opening_book};
-ghost use Rattle.alto_desk.specs.Records.{records_of};
+ghost use Rattle.alto_desk.specs.Records.{first_records};
 
 use crate::beginning::init;
 use crate::desk::Desk;
@@ -31,7 +31,7 @@ pub fn desk_in_memory<R: RowStore>(
 fn begun(alloc: Global, epoch: &Epoch, window: u32) -> Result<MemKeeper, AllocError>
     requires at_least { 2 ≤ window }
     requires at_most { window ≤ 32 }
-    ensures { IfOk result (λ keeper. keeper.stored ≡ records_of epoch.now window []) }
+    ensures { IfOk result (λ keeper. keeper.stored ≡ first_records epoch.now window) }
 {
     let mut keeper = MemKeeper::new(alloc, Stored::empty(alloc));
     match init(alloc, &mut keeper, epoch, window) {

@@ -1,34 +1,48 @@
 //! A book from batches that were read: each has to follow those before it.
-ghost use Rattle.std.specs.Prelude.{◌≡◌, ◌≢◌, ◌≤◌, ◌+◌, All, IfErr, IfOk, MatchBool, length};
+ghost use Rattle.std.specs.Prelude.{◌≡◌, ◌≢◌, ◌+◌, [], All, IfErr, IfOk, MatchBool, OnOk, true};
 ghost use Rattle.alto_book.specs.Acceptance.{past_of, with_batch};
-ghost use Rattle.alto_book.specs.Book.{opening_book, opening_rows, rows_of};
+ghost use Rattle.alto_book.specs.Book.{number_of, opening_rows, rows_of};
 ghost use Rattle.alto_book.specs.Legal.{IsLegal};
+ghost use Rattle.std.specs.BTreeSet.{Updates};
+ghost use Rattle.alto_rows.specs.Order.{name_cmp};
 ghost use Rattle.alto_rows.specs.Rows.{after};
+ghost use Rattle.base_check.specs.Receipts.{HasIds};
+ghost use Rattle.base_check.specs.Rules as judged;
+ghost use Rattle.base_check.specs.Rules.{ids_of};
+ghost use Rattle.base_code.specs.Bases.{IsBase};
 ghost use Rattle.batch_check.specs.Rules as check;
 ghost use Rattle.batch_check.specs.Rules.{KeepsRules};
 ghost use Rattle.batch_code.specs.Storable.{IsHead, IsStorable, IsStored};
 ghost use Rattle.alto_desk.specs.Opening.{ExplainsBatch, IsLater, IsNew, TellsBroken, fault_at};
-ghost use Rattle.alto_desk.specs.Records.{book_from};
+ghost use Rattle.alto_desk.specs.Records.{base_rows, book_from};
 
 use crate::fault::OpenFault;
-use crate::known::{known, last_moment};
+use crate::known::last_moment;
 use crate::ledger::Ledger;
 use crate::records::Records;
 use alto_edits::Past;
-use alto_names::Epoch;
+use alto_names::{Epoch, ImportId};
 use alto_rows::{Batch, Key, RowStore, Value, Write};
 use alto_versions::Course;
+use base_check::check_base;
+use base_code::{Base, Kept};
 use batch_check::{BookRule, CheckFault, check};
 use json_tree::Name;
 use std::alloc::{AllocError, Global};
+use std::collections::BTreeSet;
 use std::marker::Model;
 use std::sync::Arc;
+
+/// A number of receipts that no memory holds.
+const MOST_RECEIPTS: usize = 1 << 62;
 
 /// A book that is being read: its version has no range tables yet. A contract sees the book.
 #[derive(Drop)]
 pub(crate) struct Opening<R: RowStore> {
     base: Arc<R>,
+    receipts: Vec<Kept>,
     batches: Vec<Arc<Batch>>,
+    ids: BTreeSet<ImportId>,
     writes: u32,
     course: Course<R>,
 }
@@ -42,27 +56,40 @@ impl<R: RowStore> Model for Opening<R> {
     ghost Value = { Book };
 
     ghost view = { λ opening.
-        book_kept (R.rows (arc_value opening.base)) (map arc_value opening.batches.items) };
+        book_kept (R.rows (arc_value opening.base)) opening.receipts.items (map arc_value opening.batches.items) };
 
     ghost invariant = { λ opening.
-        HasRead (book_kept (R.rows (arc_value opening.base)) (map arc_value opening.batches.items))
-        opening.writes opening.course };
+        HasRead
+        (book_kept (R.rows (arc_value opening.base)) opening.receipts.items (map arc_value opening.batches.items))
+        opening.writes opening.ids opening.course };
 }
 
 impl<R: RowStore> Opening<R> {
-    /// A new book.
-    pub(crate) fn new(alloc: Global, epoch: &Epoch, window: u32) -> Result<Opening<R>, AllocError>
-        requires at_least { 2 ≤ window }
-        requires at_most { window ≤ 32 }
-        ensures { IfOk result (λ opening. opening ≡ opening_book epoch.now window) }
+    /// The book that begins with a base, or that the base breaks its rule.
+    fn new(alloc: Global, epoch: &Epoch, window: u32, base: Base) -> Result<Opening<R>, CheckFault>
+        requires head { IsHead epoch.now window }
+        requires base { IsBase base }
+        ensures ok { IfOk result (λ opening. opening ≡ book_from epoch.now window base []) }
+        ensures err { IfErr result (λ fault. judged.Explains fault (base_rows epoch.now window base) base.receipts) }
     {
-        // A name says that it is one.
-        let _name = epoch.as_bytes();
-        let base = Arc::new(alloc, first_rows::<R>(alloc, epoch, window)?)?;
-        let course = Course::new(alloc, Arc::try_clone(&base)?);
+        let Base {
+            b: _,
+            receipts,
+            rows,
+        } = base;
+        // No memory holds so many.
+        if receipts.len() >= MOST_RECEIPTS {
+            return Err(CheckFault::Memory);
+        }
+        let first = first_rows::<R>(alloc, epoch, window)?;
+        let whole = Arc::new(alloc, check_base(alloc, &first, rows, &receipts)?)?;
+        let ids = ids_of(alloc, &receipts)?;
+        let course = Course::new(alloc, receipts.len() as u64, Arc::try_clone(&whole)?)?;
         Ok(Opening {
-            base,
+            base: whole,
+            receipts,
             batches: Vec::new(alloc),
+            ids,
             writes: 0,
             course,
         })
@@ -85,32 +112,37 @@ impl<R: RowStore> Opening<R> {
         let course = self.course.with(alloc, rows, &batch.writes)?;
         let Opening {
             base,
+            receipts,
             mut batches,
+            mut ids,
             writes,
             course: _,
         } = self;
         let writes = writes + batch.writes.len() as u32;
+        add(&mut ids, &batch.id)?;
         batches.push(Arc::new(alloc, batch)?)?;
         Ok(Opening {
             base,
+            receipts,
             batches,
+            ids,
             writes,
             course,
         })
     }
 
-    /// Whether no batch has this one's id. A look at each batch.
+    /// Whether no batch has this one's id. One search.
     fn is_new(&self, batch: &Batch) -> bool
         ensures { MatchBool result (IsNew self.now batch.now) (¬ IsNew self.now batch.now) }
     {
-        known(&self.batches, &batch.id).is_none()
+        !self.ids.contains(&batch.id)
     }
 
     /// Whether the last batch isn't after this one.
     fn is_later(&self, batch: &Batch) -> bool
         ensures { MatchBool result (IsLater self.now batch.now) (¬ IsLater self.now batch.now) }
     {
-        last_moment(&self.batches) <= batch.moment
+        last_moment(&self.receipts, &self.batches) <= batch.moment
     }
 
     /// The rows after a batch, or the first of the rules on rows and writes that it breaks here.
@@ -126,9 +158,9 @@ impl<R: RowStore> Opening<R> {
 
     /// The number of the next batch.
     fn next_number(&self) -> u64
-        ensures { result ≡ length self.now.batches + 1 }
+        ensures { result ≡ number_of self.now + 1 }
     {
-        self.batches.len() as u64 + 1
+        self.receipts.len() as u64 + self.batches.len() as u64 + 1
     }
 
     /// What is kept past the base.
@@ -147,12 +179,15 @@ impl<R: RowStore> Opening<R> {
     {
         let Opening {
             base,
+            receipts,
             batches,
+            ids: _,
             writes,
             course,
         } = self;
         Ok(Ledger {
             base,
+            receipts,
             batches,
             writes,
             front: Arc::new(alloc, course.into_front(alloc)?)?,
@@ -160,23 +195,30 @@ impl<R: RowStore> Opening<R> {
     }
 }
 
-/// The book of the batches that were read, in order, or the first that breaks a rule of the book before it.
+/// The book of the base and the batches that were read, in order, or the base or the first batch that breaks a rule.
 ///
-/// Each batch costs what `check` costs, a look at the ids of those before it, and what its resources' graphs cost; each
-/// network's range table is built once.
+/// The base costs what `check_base` costs. Each batch costs what `check` costs, a search for its id, and what its
+/// resources' graphs cost; each network's range table is built once.
 pub(crate) fn opened<R: RowStore>(alloc: Global, records: Records) -> Result<Ledger<R>, OpenFault>
     requires head { IsHead records.epoch records.window }
+    requires base { IsBase records.base }
     requires storable { All IsStorable records.batches.items }
-    ensures ok { IfOk result (λ ledger. ledger.book ≡ book_from records.epoch records.window records.batches.items) }
-    ensures err { IfErr result (λ fault. TellsBroken fault records.epoch records.window records.batches.items) }
+    ensures ok { IfOk result (λ ledger.
+        ledger.book ≡ book_from records.epoch records.window records.base records.batches.items) }
+    ensures err { IfErr result (λ fault.
+        TellsBroken fault records.epoch records.window records.base records.batches.items) }
     ensures own { IfErr result (λ fault. fault ≢ OpenFault.Keeper) }
 {
     let Records {
         epoch,
         window,
+        base,
         batches,
     } = records;
-    let mut opening = Opening::new(alloc, &epoch, window)?;
+    let mut opening = match Opening::new(alloc, &epoch, window, base) {
+        Ok(opening) => opening,
+        Err(fault) => return Err(fault_at(0, fault)),
+    };
     for batch in batches {
         let number = opening.next_number();
         opening = match opening.with(alloc, batch) {
@@ -187,7 +229,26 @@ pub(crate) fn opened<R: RowStore>(alloc: Global, records: Records) -> Result<Led
     Ok(opening.into_ledger(alloc)?)
 }
 
-/// The fault of the batch with a number, from 1.
+/// The ids of receipts.
+fn ids_of(alloc: Global, receipts: &[Kept]) -> Result<BTreeSet<ImportId>, AllocError>
+    ensures { IfOk result (HasIds (ids_of receipts.now)) }
+{
+    let mut ids = BTreeSet::new(alloc);
+    for kept in receipts {
+        add(&mut ids, &kept.id)?;
+    }
+    Ok(ids)
+}
+
+/// Adds an id.
+fn add(ids: &mut BTreeSet<ImportId>, id: &ImportId) -> Result<(), AllocError>
+    ensures { OnOk result (Updates name_cmp ids.old ids.new id.now true) }
+{
+    ids.insert(id.clone()?)?;
+    Ok(())
+}
+
+/// The fault of the base, with 0, or of the batch with a number.
 fn fault_at(number: u64, fault: CheckFault) -> OpenFault
     ensures { result ≡ fault_at number fault }
 {

@@ -5,16 +5,18 @@ use Rattle.std.specs.Prelude.{ℕ, ◌+◌, ◌-◌, Bool, true, false, cond, na
 use Rattle.alto_rows.specs.declared.resource.Resource.{Resource}
 use Rattle.alto_rows.specs.declared.write.Write.{Write}
 use Rattle.alto_rows.specs.Accepted.{Accepted}
+use Rattle.alto_rows.specs.Good.{AreGood}
 use Rattle.alto_rows.specs.Rows.{Rows}
 use Rattle.alto_rows.specs.Versions.{is_declared, version_of, window_of}
 use Rattle.tips_graph.proofs.GraphLaws.{one_push_more}
 use Rattle.tips_graph.specs.Graph.{GraphData, graph_from, with_push}
 use Rattle.alto_book.specs.Acceptance.{with_batch}
-use Rattle.alto_book.specs.Book.{Book, rows_of}
+use Rattle.alto_book.specs.Book.{Book, Kept, rows_of}
 use Rattle.alto_book.specs.Legal.{IsLegal}
 use Rattle.alto_book.specs.Numbers.{renews, updates_graph}
 use Rattle.alto_book.proofs.GraphLemmas.{with_batch_extends, version_of-with_batch, renews_newly, last-updates_graph, updates_graph-renewed, updates_graph-other, updates_graph-declared}
 use Rattle.alto_book.proofs.StayLemmas.{window_of-extended}
+use Rattle.alto_book.proofs.TrimGraphLemmas.{updates_graph-base}
 use Rattle.alto_versions.specs.Front.{graph_in, graphs_of}
 use Rattle.alto_versions.specs.Graphs.{graph_after, push_after}
 use Rattle.alto_versions.proofs.FoundLemmas.{graph_found}
@@ -70,6 +72,12 @@ new_step book batch of legal legal_with out now =
 
     before : version_of rows of - 1 ≡ version_of (rows_of book) of
     before = omega (arith, next)
+
+-- that of one that a base declares, before any batch
+pub base_step : (base : Rows) (receipts : List Kept) (of : Resource) → AreGood base → is_declared base of ≡ true
+    → graph_after None of base [] ≡ updates_graph (record { base = base; receipts = receipts; batches = [] }) of
+base_step base receipts of good declared =
+    one_push_more (window_of base) (version_of base of - 1) [] (push_after of base []) ∙ sym (updates_graph-base base receipts of good declared)
 
 -- the graph of a resource that is declared after a batch, from that which it had before, if it had one
 pub graph_step : (book : Book) (batch : Accepted) (of : Resource) → IsLegal book → IsLegal (with_batch book batch)

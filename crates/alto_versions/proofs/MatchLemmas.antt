@@ -14,6 +14,7 @@ use Rattle.alto_rows.specs.declared.write.Write.{Write}
 use Rattle.alto_rows.proofs.OrderLemmas.{resource_cmp_total}
 use Rattle.alto_rows.proofs.ResourceLemmas.{resources_sorted}
 use Rattle.alto_rows.specs.Accepted.{Accepted}
+use Rattle.alto_rows.specs.Good.{AreGood}
 use Rattle.alto_rows.specs.Order.{resource_cmp}
 use Rattle.alto_rows.specs.Rows.{Rows}
 use Rattle.alto_rows.specs.Versions.{is_declared, resources_of}
@@ -25,7 +26,7 @@ use Rattle.alto_book.specs.Numbers.{updates_graph}
 use Rattle.alto_book.proofs.StateLemmas.{good_rows}
 use Rattle.alto_versions.specs.Front.{graph_in, graphs_of}
 use Rattle.alto_versions.specs.Graphs.{graph_after, graphs_from, leading_graph}
-use Rattle.alto_versions.proofs.GraphLemmas.{graph_step}
+use Rattle.alto_versions.proofs.GraphLemmas.{base_step, graph_step}
 use Rattle.alto_versions.proofs.ResourceLemmas.{resources_declared}
 
 -- graphs are in the order of their resources
@@ -151,6 +152,25 @@ graphs_grown book batch legal legal_with =
         → Become (updates_graph (with_batch book batch)) (graphs_of book) rows batch.writes ofs
     each [] h = tt
     each (of ∷ ofs) h = (graph_step book batch of legal legal_with h.0, each ofs h.1)
+
+-- a book without batches past its base has the graphs that its rows alone make
+pub graphs_of_base : (book : Book) (rows : Rows) → AreGood rows → book.batches ≡ [] → rows ≡ book.base → matched (resources_of rows) [] rows [] ≡ graphs_of book
+unfolding IsStrictlySortedBy
+graphs_of_base book rows good none is =
+    matched_all (updates_graph alone) (resources_of rows) [] rows [] (resources_sorted rows good.sorted) tt (each (resources_of rows) (resources_declared rows))
+    ∙ ap graphs_of same
+  where
+    alone : Book
+    alone = record { base = rows; receipts = book.receipts; batches = [] }
+
+    same : alone ≡ book
+    same =
+        ap (λ (base : Rows). record { base = base; receipts = book.receipts; batches = [] }) is
+        ∙ ap (λ (batches : List Accepted). record { base = book.base; receipts = book.receipts; batches = batches }) (sym none)
+
+    each : (ofs : List Resource) → AllByRecursion (λ of. is_declared rows of ≡ true) ofs → Become (updates_graph alone) [] rows [] ofs
+    each [] h = tt
+    each (of ∷ ofs) h = (base_step rows book.receipts of good h.0, each ofs h.1)
 
 -- ---- the loop over the resources
 

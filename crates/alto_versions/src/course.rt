@@ -1,13 +1,12 @@
-ghost use Rattle.std.specs.Prelude.{◌≡◌, ◌<◌, ◌^◌, IfOk};
+ghost use Rattle.std.specs.Prelude.{◌≡◌, ◌<◌, ◌^◌, [], IfOk, length};
 ghost use Rattle.std.specs.Arc.{arc_value};
 ghost use Rattle.alto_rows.specs.Good.{AreGood};
 ghost use Rattle.alto_rows.specs.Accepted.{Accepted};
 ghost use Rattle.alto_book.specs.Acceptance.{with_batch};
-ghost use Rattle.alto_book.specs.Book.{Book, opening_book, opening_rows, rows_of};
+ghost use Rattle.alto_book.specs.Book.{Book, rows_of};
 ghost use Rattle.alto_book.specs.Legal.{IsLegal};
 ghost use Rattle.alto_versions.specs.Course.{Follows};
 ghost use Rattle.alto_versions.specs.Front.{StandsFor};
-ghost use Rattle.std.specs.Prelude.{List, ℕ};
 
 use crate::front::Front;
 use crate::graphs::graphs_after;
@@ -42,16 +41,19 @@ impl<R: RowStore> Model for Course<R> {
 }
 
 impl<R: RowStore> Course<R> {
-    /// The course of a new book, whose rows these are.
-    pub fn new(alloc: Global, rows: Arc<R>) -> Course<R>
-        ensures { (epoch : List ℕ) (window : ℕ) → R.rows (arc_value rows) ≡ opening_rows epoch window
-            → Follows result (opening_book epoch window) }
+    /// The course of a book that has no batches but those that led to its base, so many, and begins with these rows.
+    pub fn new(alloc: Global, number: u64, rows: Arc<R>) -> Result<Course<R>, AllocError>
+        requires { AreGood (R.rows (arc_value rows)) }
+        ensures { IfOk result (λ course. (book : Book) → book.batches ≡ [] → length book.receipts ≡ number
+            → R.rows (arc_value rows) ≡ book.base → Follows course book) }
     {
-        Course {
-            n: 0,
+        let none = Vec::new(alloc);
+        let graphs = graphs_after(alloc, &none, &rows, &[])?;
+        Ok(Course {
+            n: number,
             rows,
-            graphs: Vec::new(alloc),
-        }
+            graphs,
+        })
     }
 
     /// The rows.

@@ -1,5 +1,5 @@
 //! The updates graphs of a version, made from those of the version before. All that a batch left is shared.
-ghost use Rattle.std.specs.Prelude.{◌≡◌, ◌≤◌, ◌<◌, ◌^◌, ◌-◌, IfOk, option_map};
+ghost use Rattle.std.specs.Prelude.{◌≡◌, ◌≤◌, ◌<◌, ◌^◌, ◌-◌, [], IfOk, option_map};
 ghost use Rattle.std.specs.Arc.{arc_value};
 ghost use Rattle.std.specs.BTreeMap.{is_at};
 ghost use Rattle.std.specs.Ordering.{is_lt};
@@ -23,7 +23,7 @@ use std::sync::Arc;
 use tips_graph::Graph;
 
 /// The updates graphs after a batch with these writes, which led to these rows. They share the rows, and the graphs of all
-/// that the batch gave no number.
+/// that the batch gave no number. With no graphs and no writes they are those of a base with these rows.
 ///
 /// Costs a walk over the rows of the networks and metrics, one over the graphs, a search for each declared resource, and
 /// a look at each write for each that has a new number.
@@ -34,9 +34,12 @@ pub(crate) fn graphs_after<R: RowStore>(
     writes: &[Write],
 ) -> Result<Vec<(Resource, Arc<Graph<R>>)>, AllocError>
     requires { AreGood (R.rows (arc_value rows.now)) }
-    ensures { IfOk result (λ after. (book : Book) (batch : Accepted) → IsLegal book → IsLegal (with_batch book batch)
+    ensures later { IfOk result (λ after. (book : Book) (batch : Accepted) → IsLegal book
+        → IsLegal (with_batch book batch)
         → R.rows (arc_value rows.now) ≡ rows_of (with_batch book batch) → writes.now ≡ batch.writes
         → entries graphs.now ≡ graphs_of book → entries after.items ≡ graphs_of (with_batch book batch)) }
+    ensures first { IfOk result (λ after. (book : Book) → book.batches ≡ [] → R.rows (arc_value rows.now) ≡ book.base
+        → entries graphs.now ≡ [] → writes.now ≡ [] → entries after.items ≡ graphs_of book) }
 {
     let mut left = graphs;
     let mut after = Vec::new(alloc);

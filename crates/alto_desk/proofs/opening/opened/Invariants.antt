@@ -6,5 +6,5 @@ use Rattle.alto_desk.proofs.opening.opened.Given as goal
 abbrev pub invariant-loop-batch : goal.invariant-loop-batch
 invariant-loop-batch g l = record {
   parts : l.opening.batches ++ l.batch-iterator.rest.items ≡ l.fn.records.batches.items;
-  began : l.opening ≡ book_from l.fn.records.epoch l.fn.records.window l.opening.batches;
+  began : l.opening ≡ book_from l.fn.records.epoch l.fn.records.window l.fn.records.base l.opening.batches;
 }

@@ -4,7 +4,7 @@ use Rattle.std.proofs.lemmas.List.{map-append}
 use Rattle.std.specs.Arc.{arc_value}
 use Rattle.alto_rows.specs.Versions.{resources_of}
 use Rattle.alto_versions.specs.Graphs.{entries}
-use Rattle.alto_versions.proofs.MatchLemmas.{matched_step, matched_end, graphs_grown}
+use Rattle.alto_versions.proofs.MatchLemmas.{matched_step, matched_end, graphs_grown, graphs_of_base}
 use Rattle.alto_versions.proofs.graphs.graphs_after.Goals as goal
 
 pub loop-of-init : goal.loop-of-init
@@ -24,7 +24,12 @@ loop-of-preserved g c =
     c.graphs_from-left.ensures
     c.loop-of.invariant
 
-pub returns : goal.returns
-returns g c = λ book batch legal legal_with rows writes graphs.
+pub returns-clause-later : goal.returns-clause-later
+returns-clause-later g c = λ book batch legal legal_with rows writes graphs.
     matched_end _ _ (entries c.loop-of.after.items) _ _ c.loop-of.of-iterator.rest.items (omega (arith, c.loop-of.of-iterator.rest.ok, c.in-None.ensures.steps.0)) c.loop-of.invariant
     ∙ (rw (rows, writes, graphs) (graphs_grown book batch legal legal_with))
+
+pub returns-clause-first : goal.returns-clause-first
+returns-clause-first g c = λ book none rows graphs writes.
+    matched_end _ _ (entries c.loop-of.after.items) _ _ c.loop-of.of-iterator.rest.items (omega (arith, c.loop-of.of-iterator.rest.ok, c.in-None.ensures.steps.0)) c.loop-of.invariant
+    ∙ (rw (graphs, writes) (graphs_of_base book _ c.requires none rows))

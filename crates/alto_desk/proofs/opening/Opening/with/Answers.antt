@@ -1,7 +1,10 @@
 use Rattle.std.proofs.Common.{refl, sym, ap, ◌∙◌, length, map, subst, arith}
 use Rattle.std.proofs.lemmas.List.{map-append}
 use Rattle.std.specs.Arc.{arc_value}
+use Rattle.std.specs.BTreeSet.{Updates}
+use Rattle.std.specs.Prelude.{true}
 use Rattle.alto_rows.specs.Accepted.{Accepted}
+use Rattle.alto_rows.specs.Order.{name_cmp}
 use Rattle.alto_rows.specs.Rows.{after}
 use Rattle.alto_book.specs.Acceptance.{with_batch}
 use Rattle.alto_book.specs.Book.{Book, rows_of}
@@ -15,14 +18,16 @@ use Rattle.alto_desk.proofs.opening.Opening.with.Goals as goal
 pub invariant_of-result : goal.invariant_of-result
 invariant_of-result g c =
     let batch = c.args.batch in
-    let book : Book = book_kept (g.R.RowStore.rows (arc_value c.self.inside.base)) (map arc_value c.self.inside.batches.items) in
+    let book : Book = book_kept (g.R.RowStore.rows (arc_value c.self.inside.base)) c.self.inside.receipts.items (map arc_value c.self.inside.batches.items) in
+    let updates = subst (λ (one : Accepted). Updates name_cmp c.self.inside.ids c.add.new.ids one.id true) c.batch.view_is c.in_ok-add.ensures in
     let old : IsLegal c.args.self = subst IsLegal c.self.view_is c.self.invariant.legal in
     let legal = legal_stored c.args.self batch old c.requires.writes c.if-not-is_new.ensures c.if-not-is_later.ensures c.in_ok-rows.ensures.ok in
     let more = subst (λ (book : Book). IsLegal (with_batch book batch)) (sym c.self.view_is) legal in
     let writes = ap (λ (one : Accepted). one.writes) c.batch.view_is in
-    read_more _ batch _ _ _ _ _ c.self.invariant more
+    read_more _ batch _ _ _ _ _ _ _ c.self.invariant more
     (rw (c.in_ok-push.ensures.items, map-append, c.in_ok-new.ensures.ok) refl)
     (omega (arith, c.batch.inside.writes.ok, ap (λ (one : Accepted). length one.writes) c.batch.view_is))
+    updates
     (c.in_ok-course.ensures _ batch c.self.invariant.legal more
     (c.in_ok-rows.ensures.next
     ∙ (ap (λ (book : Book). after (rows_of book) batch.writes) (sym c.self.view_is) ∙ rows_of-with_batch book batch))

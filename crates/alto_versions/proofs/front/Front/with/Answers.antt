@@ -25,7 +25,7 @@ returns g c = λ book legal legal_more stands.
     stands_more book c.args.batch.now c.args.self.now _ stands
     (ap (λ (version : Version). version.n + 1) c.self.view_is)
     led
-    (λ current. c.in_ok-graphs.ensures book c.args.batch.now legal legal_more current (c.deref-4.ensures.value ∙ writes)
+    (λ current. c.in_ok-graphs.ensures.later book c.args.batch.now legal legal_more current (c.deref-4.ensures.value ∙ writes)
     (ap entries c.deref-3.ensures.value ∙ (ap (λ (version : Version). version.graphs) c.self.view_is ∙ stands.graphs)))
     (λ current. c.in_ok-tables.ensures (rows_of book) seen
     (ap entries c.deref-5.ensures.value ∙ (ap (λ (version : Version). version.tables) c.self.view_is ∙ stands.tables))

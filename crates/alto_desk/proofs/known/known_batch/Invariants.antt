@@ -4,7 +4,7 @@ use Rattle.std.specs.List.{enumerate_from}
 use Rattle.std.specs.Arc.{arc_value}
 use Rattle.alto_rows.specs.Order.{same_name}
 use Rattle.alto_book.specs.Book.{kept_of}
-use Rattle.alto_desk.proofs.known.known.Given as goal
+use Rattle.alto_desk.proofs.known.known_batch.Given as goal
 
 -- what is sought is sought among the batches that are left
 abbrev pub invariant-loop-before : goal.invariant-loop-before
