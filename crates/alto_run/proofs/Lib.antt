@@ -1,0 +1,3 @@
+mod IfLemmas
+pub mod StatusLemmas
+mod TaskLemmas
