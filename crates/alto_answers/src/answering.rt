@@ -41,7 +41,7 @@ pub fn answer<R: RowStore>(
     let path = path_of(&request.target);
     match client.routes.place(path) {
         None => Ok(Answer::Reply(not_found(alloc, "route")?)),
-        Some(Place::Maps) => maps(alloc, &*front.rows, request.verb, path),
+        Some(Place::Maps) => maps(alloc, front, request.verb, path),
         Some(Place::Directory) => directory(alloc, &*front.rows, request.verb),
         Some(Place::Lookup) => lookup(alloc, front, request.verb, path),
         Some(Place::Query(of)) => query(alloc, front, client, request, of, path),

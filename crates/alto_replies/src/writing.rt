@@ -6,7 +6,11 @@ use crate::reply::Reply;
 use alto_http::Verb;
 use std::alloc::{AllocError, Global};
 
-/// The bytes of a reply (RFC 9112, sections 4 to 6), after which the connection closes or not.
+/// Room for a head, which few are longer than.
+const HEAD_BYTES: usize = 256;
+
+/// The bytes of a reply (RFC 9112, sections 4 to 6), after which the connection closes or not. Takes memory once for a
+/// head that isn't uncommonly long, and copies the body once.
 #[tactic(auto, unfolding(crate::specs::Reply::bytes_of))]
 pub fn reply_bytes(alloc: Global, reply: &Reply, close: bool) -> Result<Vec<u8>, AllocError>
     requires { IsReply reply.now }
@@ -17,12 +21,12 @@ pub fn reply_bytes(alloc: Global, reply: &Reply, close: bool) -> Result<Vec<u8>,
     Ok(bytes)
 }
 
-/// The status line and the fields, with the empty line after them.
+/// The status line and the fields, with the empty line after them, with room for the body behind them.
 fn head(alloc: Global, reply: &Reply, close: bool) -> Result<String, AllocError>
     requires { IsReply reply.now }
     ensures { IfOk result (λ head. string_bytes head ≡ head_of reply.now close) }
 {
-    let mut head = String::new(alloc);
+    let mut head = String::with_capacity(alloc, reply.body.len().saturating_add(HEAD_BYTES))?;
     write_status(&mut head, reply.status)?;
     write_type(&mut head, reply.content_type.as_str())?;
     write_length(&mut head, reply.body.len())?;

@@ -5,3 +5,4 @@ pub mod MatchLemmas
 pub mod PrefixLemmas
 pub mod ResourceLemmas
 pub mod TableLemmas
+pub mod TextLemmas

@@ -3,3 +3,4 @@ pub mod Graphs
 pub mod Course
 pub mod Resources
 pub mod Tables
+pub mod Texts

@@ -11,14 +11,15 @@ ghost use Rattle.alto_versions.specs.Front.{StandsFor};
 use crate::front::Front;
 use crate::graphs::graphs_after;
 use crate::tables::tables_of;
+use crate::texts::texts_of;
 use alto_rows::{Resource, RowStore, Write};
 use std::alloc::{AllocError, Global};
 use std::marker::Model;
 use std::sync::Arc;
 use tips_graph::Graph;
 
-/// A version in the making: all of it but the range tables, which cost much and are asked for at the end alone. So many
-/// batches in a row are gone through as fast as their rows. A contract sees the number, the rows and the graphs.
+/// A version in the making: all of it but the range tables and the texts, which cost much and are asked for at the end
+/// alone. So many batches in a row are gone through as fast as their rows. A contract sees the number, the rows and the graphs.
 #[derive(Drop)]
 pub struct Course<R: RowStore> {
     n: u64,
@@ -83,18 +84,20 @@ impl<R: RowStore> Course<R> {
         })
     }
 
-    /// The version that it has come to: each declared network gets its range table.
+    /// The version that it has come to: each declared network gets its range table and the text of its map.
     pub fn into_front(self, alloc: Global) -> Result<Front<R>, AllocError>
         requires good { AreGood self.rows }
         ensures { IfOk result (λ front. (book : Book) → Follows self book → StandsFor front book) }
     {
         let Course { n, rows, graphs } = self;
         let tables = tables_of(alloc, &*rows)?;
+        let texts = texts_of(alloc, &*rows)?;
         Ok(Front {
             n,
             rows,
             graphs,
             tables,
+            texts,
         })
     }
 }

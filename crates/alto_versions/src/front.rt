@@ -1,6 +1,8 @@
-ghost use Rattle.std.specs.Prelude.{◌≡◌, ◌<◌, ◌^◌, IfOk, option_map};
+ghost use Rattle.std.specs.Prelude.{◌≡◌, ◌<◌, ◌^◌, IfOk, IfSome, option_map};
+ghost use Rattle.serde_json.specs.Written.{compact_text};
 ghost use Rattle.alto_rows.specs.Good.{AreGood};
 ghost use Rattle.alto_rows.specs.Rows.{after};
+ghost use Rattle.edge_patch.specs.Documents.{document};
 ghost use Rattle.alto_book.specs.Book.{Book};
 ghost use Rattle.alto_book.specs.Legal.{IsLegal};
 ghost use Rattle.alto_book.specs.Acceptance.{with_batch};
@@ -8,6 +10,7 @@ ghost use Rattle.alto_versions.specs.Front.{StandsFor, graph_in, table_in};
 
 use crate::graphs::{graphs_after, is_same};
 use crate::tables::{table_of, tables_after};
+use crate::texts::{Text, text_of, texts_after};
 use alto_names::NetName;
 use alto_rows::{Batch, Resource, RowStore};
 use pid_prefix::RangeTable;
@@ -16,9 +19,9 @@ use std::marker::Model;
 use std::sync::Arc;
 use tips_graph::Graph;
 
-/// A version: the rows after some number of batches, the updates graphs that they have led to, and the range tables of
-/// their prefixes. It never changes, and readers share it. A contract sees the number, the rows, the graphs, and the
-/// prefixes of the tables.
+/// A version: the rows after some number of batches, the updates graphs that they have led to, the range tables of their
+/// prefixes, and texts that are asked for often. It never changes, and readers share it. A contract sees the number, the
+/// rows, the graphs, and the prefixes of the tables. The rows are good, and the texts are those of the rows.
 #[derive(Drop)]
 pub struct Front<R: RowStore> {
     /// How many batches led to it.
@@ -29,12 +32,15 @@ pub struct Front<R: RowStore> {
     pub graphs: Vec<(Resource, Arc<Graph<R>>)>,
     /// The range table of each declared network, in the order of their names.
     pub tables: Vec<(NetName, Arc<RangeTable>)>,
+    /// The text of each declared network's map, in the order of their names.
+    pub(crate) texts: Vec<(NetName, Arc<Text>)>,
 }
 
 impl<R: RowStore> Model for Front<R> {
     ghost use Rattle.std.specs.Arc.{arc_value};
     ghost use Rattle.alto_versions.specs.Front.{Version};
     ghost use Rattle.alto_versions.specs.Graphs.{entries};
+    ghost use Rattle.alto_versions.specs.Texts.{AreTextsOf};
 
     ghost Value = { Version };
 
@@ -44,6 +50,8 @@ impl<R: RowStore> Model for Front<R> {
       graphs = entries front.graphs.items;
       tables = entries front.tables.items;
     } };
+
+    ghost invariant = { λ front. AreTextsOf (R.rows (arc_value front.rows)) (entries front.texts.items) };
 }
 
 impl<R: RowStore> Front<R> {
@@ -67,10 +75,23 @@ impl<R: RowStore> Front<R> {
         Some(table)
     }
 
+    /// The text of a resource's document, where it is kept, as that of each declared network's map is. Linear in the
+    /// number of networks.
+    pub fn text(&self, of: &Resource) -> Option<&[u8]>
+        ensures { IfSome result (λ text. text.now ≡ compact_text (document of.now self.now.rows)) }
+    {
+        let Resource::Net(net) = of else {
+            return None;
+        };
+        let text = text_of(&self.texts, net)?;
+        Some(text.as_bytes())
+    }
+
     /// The version after one batch more. It shares what the batch left.
     ///
     /// Costs what the store's `with` costs, two searches for each declared resource, a look at each write for each of
-    /// those that the batch gave a number and for each network, and a range table for each network whose prefixes it wrote.
+    /// those that the batch gave a number and twice for each network, a range table for each network whose prefixes it
+    /// wrote, and the writing of each network map that it changed.
     pub fn with(&self, alloc: Global, batch: &Batch) -> Result<Front<R>, AllocError>
         requires room { self.now.n < 2 ^ 63 }
         requires good { AreGood (after self.now.rows batch.now.writes) }
@@ -80,11 +101,13 @@ impl<R: RowStore> Front<R> {
         let rows = Arc::new(alloc, self.rows.with(alloc, &batch.writes)?)?;
         let graphs = graphs_after(alloc, &self.graphs, &rows, &batch.writes)?;
         let tables = tables_after(alloc, &self.tables, &*rows, &batch.writes)?;
+        let texts = texts_after(alloc, &self.texts, &*rows, &batch.writes)?;
         Ok(Front {
             n: self.n + 1,
             rows,
             graphs,
             tables,
+            texts,
         })
     }
 }

@@ -1,9 +1,9 @@
 //! Versions of the book, as readers share them: the rows after some number of batches, the updates graph of each
-//! declared resource, and the range table of each declared network.
+//! declared resource, and the range table of each declared network with the text of its map.
 //!
 //! ```text
-//! Front { n, rows, graphs, tables } ── with(batch) ──▶ the next one: what the batch left is shared
-//! Course { n, rows, graphs } ── with(batch) ── with(batch) ── .. ── into_front ──▶ Front: its tables are built once
+//! Front { n, rows, graphs, tables, texts } ── with(batch) ──▶ the next one: what the batch left is shared
+//! Course { n, rows, graphs } ── with(batch) ── with(batch) ── .. ── into_front ──▶ Front: tables and texts are made once
 //! ```
 #![tactic(auto)]
 
@@ -12,6 +12,7 @@ mod front;
 mod graphs;
 mod resources;
 mod tables;
+mod texts;
 
 pub use course::Course;
 pub use front::Front;

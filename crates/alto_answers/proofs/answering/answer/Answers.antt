@@ -10,10 +10,7 @@ use Rattle.alto_answers.proofs.answering.answer.Goals as goal
 
 -- the version has the rows of a legal book
 pub maps-requires : goal.maps-requires
-maps-requires g c =
-    let version = c.requires in
-    let rows = ap g.R.RowStore.rows c.deref-in-Some-Maps.ensures ∙ ap (λ (version : Version). version.rows) c.front.view_is ∙ version.2.current in
-    subst AreGood (sym rows) (good_rows _ version.1)
+maps-requires g c = subst AreGood (sym c.requires.2.current) (good_rows _ c.requires.1)
 
 pub directory-requires : goal.directory-requires
 directory-requires g c =

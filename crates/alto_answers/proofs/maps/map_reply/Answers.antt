@@ -1,13 +1,16 @@
-use Rattle.std.proofs.Common.{◌≡◌, None, sym, ◌∙◌}
+use Rattle.std.proofs.Common.{◌≡◌, None, ap, sym, ◌∙◌}
 use Rattle.alto_rows.specs.Ids.{resource_named}
+use Rattle.alto_versions.specs.Front.{Version}
 use Rattle.alto_answers.proofs.NamedLemmas.{named_declared}
 use Rattle.alto_answers.proofs.maps.map_reply.Goals as goal
 
-pub document_text-requires-clause-declared : goal.document_text-requires-clause-declared
-document_text-requires-clause-declared g c =
-    named_declared (g.R.RowStore.rows c.args.rows.now) c.args.text.now c.in-Some.of (sym c.in-Some.is ∙ c.in_ok-of.ensures)
+pub document_of-requires-clause-declared : goal.document_of-requires-clause-declared
+document_of-requires-clause-declared g c =
+    let rows = ap g.R.RowStore.rows c.deref.ensures ∙ ap (λ (version : Version). version.rows) c.front.view_is in
+    named_declared c.args.front.now.rows c.args.text.now c.in-Some.of (sym c.in-Some.is ∙ rw rows at c.in_ok-of.ensures)
 
 pub returns-in-None : goal.returns-in-None
 returns-in-None g c =
-    let none : resource_named (g.R.RowStore.rows c.args.rows.now) c.args.text.now ≡ None = sym c.in_ok-of.ensures ∙ c.in-None.is in
+    let rows = ap g.R.RowStore.rows c.deref.ensures ∙ ap (λ (version : Version). version.rows) c.front.view_is in
+    let none : resource_named c.args.front.now.rows c.args.text.now ≡ None = sym (rw rows at c.in_ok-of.ensures) ∙ c.in-None.is in
     rw none c.not_found.ensures.reply
