@@ -35,13 +35,13 @@ use Rattle.alto_desk.specs.Ledger.{HasRead, Keeps, book_kept, receipt_of}
 -- ---- rows behind those of a new book
 
 -- keys of a base are behind the epoch and the window
-epoch_before : (at : Key) → 3 ≤ kind_of at → key_cmp key.Epoch at ≡ Less
+pub epoch_before : (at : Key) → 3 ≤ kind_of at → key_cmp key.Epoch at ≡ Less
 unfolding key_cmp
 epoch_before key.Epoch h = absurd (omega arith)
 epoch_before key.Window h = absurd (omega arith)
 epoch_before _ h = refl
 
-window_before : (at : Key) → 3 ≤ kind_of at → key_cmp key.Window at ≡ Less
+pub window_before : (at : Key) → 3 ≤ kind_of at → key_cmp key.Window at ≡ Less
 unfolding key_cmp
 window_before key.Epoch h = absurd (omega arith)
 window_before key.Window h = absurd (omega arith)

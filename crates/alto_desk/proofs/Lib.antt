@@ -4,3 +4,6 @@ pub mod KnownLemmas
 pub mod PieceLemmas
 pub mod RecordLemmas
 pub mod RuleLemmas
+pub mod NextLemmas
+pub mod StoredRowsLemmas
+pub mod TrimLemmas

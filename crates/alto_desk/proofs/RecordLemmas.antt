@@ -115,7 +115,7 @@ backs_more holds later book kept grown batch bytes same spelled more storable ke
 -- ---- rows that are read
 
 -- one more of a list
-taken : {A : Type 0} (xs : List A) (i : ℕ) (x : A) → i < length xs → x ≡ get_or xs i x → take (i + 1) xs ≡ take i xs ++ x ∷ []
+pub taken : {A : Type 0} (xs : List A) (i : ℕ) (x : A) → i < length xs → x ≡ get_or xs i x → take (i + 1) xs ≡ take i xs ++ x ∷ []
 taken xs i x within is = rw (add-one i) (take-suc xs i x within ∙ ap (λ y. take i xs ++ y ∷ []) (sym is))
 
 -- the rows so far are those of the batches so far, with one more of each

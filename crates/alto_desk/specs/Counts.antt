@@ -7,6 +7,8 @@ use Rattle.alto_desk.specs.declared.fault.InitFault.{InitFault}
 use Rattle.alto_desk.specs.declared.fault.InitFault.TheVariants as init
 use Rattle.alto_desk.specs.declared.fault.OpenFault.{OpenFault}
 use Rattle.alto_desk.specs.declared.fault.OpenFault.TheVariants as opening
+use Rattle.alto_desk.specs.declared.fault.TrimFault.{TrimFault}
+use Rattle.alto_desk.specs.declared.fault.TrimFault.TheVariants as trim
 
 -- after an import: one more exactly where its batch couldn't be kept
 abbrev pub after_edit : {T : Type 0} → Result T EditFault → ℕ → ℕ
@@ -22,3 +24,8 @@ after_init _ n = n
 abbrev pub after_fault : OpenFault → ℕ → ℕ
 after_fault opening.Keeper n = one_more n
 after_fault _ n = n
+
+-- after a trim: one more exactly where the keeper refused
+abbrev pub after_trim : {T : Type 0} → Result T TrimFault → ℕ → ℕ
+after_trim (Err trim.Keeper) n = one_more n
+after_trim _ n = n

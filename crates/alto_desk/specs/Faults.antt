@@ -7,6 +7,8 @@ use Rattle.alto_desk.specs.declared.fault.InitFault.{InitFault}
 use Rattle.alto_desk.specs.declared.fault.InitFault.TheVariants as init
 use Rattle.alto_desk.specs.declared.fault.OpenFault.{OpenFault}
 use Rattle.alto_desk.specs.declared.fault.OpenFault.TheVariants as opening
+use Rattle.alto_desk.specs.declared.fault.TrimFault.{TrimFault}
+use Rattle.alto_desk.specs.declared.fault.TrimFault.TheVariants as trim
 
 -- by an import
 abbrev pub edit_fault : KeepFault → EditFault
@@ -22,3 +24,8 @@ init_fault keep.Memory = init.Memory
 abbrev pub open_fault : KeepFault → OpenFault
 open_fault keep.Failed = opening.Keeper
 open_fault keep.Memory = opening.Memory
+
+-- where a book is trimmed
+abbrev pub trim_fault : KeepFault → TrimFault
+trim_fault keep.Failed = trim.Keeper
+trim_fault keep.Memory = trim.Memory

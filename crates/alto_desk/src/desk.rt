@@ -1,4 +1,4 @@
-ghost use Rattle.std.specs.Prelude.{◌≡◌, ◌≢◌, ◌⊎◌, ◌+◌, pos, All, Err, IfErr, IfOk, None, Ok, OnErr, OnOk, map};
+ghost use Rattle.std.specs.Prelude.{◌≡◌, ◌≢◌, ◌⊎◌, ◌+◌, ◌<◌, ◌^◌, ◌≤ℤ◌, pos, All, Err, IfErr, IfOk, None, Ok, OnErr, OnOk, length, map};
 ghost use Rattle.std.specs.Arc.{arc_value};
 ghost use Rattle.alto_edits.specs.Edits.{IsEdit};
 ghost use Rattle.alto_book.specs.Acceptance.{accept, known};
@@ -6,11 +6,12 @@ ghost use Rattle.alto_book.specs.Book.{all_kept, number_of};
 ghost use Rattle.alto_book.specs.Legal.{IsLegal};
 ghost use Rattle.alto_keeper.specs.Stored.{IsNext, StoredData, Stays, with_row};
 ghost use Rattle.alto_versions.specs.Front.{StandsFor};
-ghost use Rattle.alto_desk.specs.Counts.{after_edit, after_fault};
+ghost use Rattle.alto_desk.specs.Counts.{after_edit, after_fault, after_trim};
 ghost use Rattle.alto_desk.specs.Opening.{Explains};
 ghost use Rattle.alto_desk.specs.Records.{Backs, StoredAs};
+ghost use Rattle.alto_desk.specs.Trim.{trim, trim_number};
 
-use crate::fault::OpenFault;
+use crate::fault::{OpenFault, TrimFault};
 use crate::ledger::Ledger;
 use crate::opening::opened;
 use crate::records::read_records;
@@ -115,6 +116,42 @@ impl<K: Keeper + Drop, R: RowStore> Desk<K, R> {
         self.accept_new(alloc, command, moment, tally)
     }
 
+    /// Moves the base on, so that only the last `keep` batches stay beside it, and answers its number then. It never
+    /// moves back. Receipts stay for good, and the book's rows and number are what they were. All is made before the
+    /// keeper is called, which takes the records of the older batches away.
+    ///
+    /// Costs what the store's `with` costs for each batch, a walk over the rows of the base, its bytes, a copy of each
+    /// receipt, two searches for each declared resource for each batch that stays, and a range table for each network.
+    pub fn trim(&mut self, alloc: Global, keep: u32) -> Result<u64, TrimFault>
+        ensures trimmed { OnOk result (self.new.ledger.book
+            ≡ trim self.old.ledger.book (trim_number self.old.ledger.book keep)) }
+        ensures number { IfOk result (λ number. number ≡ trim_number self.old.ledger.book keep) }
+        ensures unchanged { OnErr result (self.new.ledger.book ≡ self.old.ledger.book) }
+        ensures legal { IsLegal self.old.ledger.book }
+
+        // What is kept stands for the book.
+        ensures clean { K.is_clean self.new.keeper → K.is_clean self.old.keeper }
+        ensures kept { K.is_clean self.new.keeper → Backs (K.holds self.old.keeper) self.old.ledger.book
+            → Backs (K.holds self.new.keeper) self.new.ledger.book }
+
+        // The keeper isn't called where the base stays. `Keeper` is answered exactly where it counted a fault.
+        ensures idle { trim_number self.old.ledger.book keep ≡ length self.old.ledger.book.receipts
+            → self.new.keeper ≡ self.old.keeper }
+        ensures faults { K.faults self.new.keeper ≡ after_trim result (K.faults self.old.keeper) }
+    {
+        // The version says that the book is legal.
+        let _version = self.ledger.front();
+        let count = self.ledger.taken_in(keep);
+        let number = self.ledger.number_behind(count);
+        if count == 0 {
+            return Ok(number);
+        }
+        let (ledger, pieces) = self.ledger.trimmed(alloc, count)?;
+        self.keeper.rebase(alloc, &pieces, row_number(number))?;
+        self.ledger = ledger;
+        Ok(number)
+    }
+
     /// Accepts an import whose id is new, or refuses it.
     fn accept_new(
         &mut self,
@@ -168,6 +205,15 @@ impl<K: Keeper + Drop, R: RowStore> Desk<K, R> {
             Err(KeepFault::Memory) => Err(EditFault::Memory),
         }
     }
+}
+
+/// The number of a batch as its row has it.
+fn row_number(number: u64) -> i64
+    requires { number < 2 ^ 63 }
+    ensures number { result ≡ pos number }
+    ensures from_zero { pos 0 ≤ℤ result }
+{
+    number as i64
 }
 
 /// The book of what a keeper keeps.

@@ -29,6 +29,15 @@ pub enum OpenFault {
     Memory,
 }
 
+/// Why a book wasn't trimmed.
+#[derive(Clone, Copy, Debug, PartialEq, Eq)]
+pub enum TrimFault {
+    /// The keeper refused, and counted it.
+    Keeper,
+    /// Out of memory.
+    Memory,
+}
+
 impl From<AllocError> for InitFault {
     ghost use Rattle.std.specs.Prelude.{◌≡◌};
     ghost use Rattle.alto_desk.specs.declared.fault.InitFault.TheVariants.{Memory};
@@ -86,6 +95,31 @@ impl From<KeepFault> for OpenFault {
         match fault {
             KeepFault::Failed => OpenFault::Keeper,
             KeepFault::Memory => OpenFault::Memory,
+        }
+    }
+}
+
+impl From<AllocError> for TrimFault {
+    ghost use Rattle.std.specs.Prelude.{◌≡◌};
+    ghost use Rattle.alto_desk.specs.declared.fault.TrimFault.TheVariants.{Memory};
+
+    ghost from_gives = { λ _ fault. fault ≡ Memory };
+
+    fn from(_: AllocError) -> TrimFault {
+        TrimFault::Memory
+    }
+}
+
+impl From<KeepFault> for TrimFault {
+    ghost use Rattle.std.specs.Prelude.{◌≡◌};
+    ghost use Rattle.alto_desk.specs.Faults.{trim_fault};
+
+    ghost from_gives = { λ cause fault. fault ≡ trim_fault cause };
+
+    fn from(fault: KeepFault) -> TrimFault {
+        match fault {
+            KeepFault::Failed => TrimFault::Keeper,
+            KeepFault::Memory => TrimFault::Memory,
         }
     }
 }

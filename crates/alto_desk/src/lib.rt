@@ -3,7 +3,8 @@
 //! ```text
 //! records ── Desk::open ──▶ Desk ◀── edit ── import          receipt
 //!                            │ compile, version, encode, then Keeper::append, and only then the book has the batch
-//!                            └──▶ Front ◀── Desk::front ── every reader
+//!                            │ ──▶ Front ◀── Desk::front ── every reader
+//!                            └──── Desk::trim: the base takes in older batches, by Keeper::rebase
 //! ```
 #![tactic(auto)]
 
@@ -13,15 +14,17 @@ mod fault;
 mod known;
 mod ledger;
 mod memory;
+mod next_base;
 mod opening;
 mod records;
 mod tally;
+mod trim;
 
 pub use alto_book::{Command, EditFault, Receipt};
 pub use alto_versions::Front;
 pub use batch_check::BookRule;
 pub use beginning::init;
 pub use desk::Desk;
-pub use fault::{InitFault, OpenFault};
+pub use fault::{InitFault, OpenFault, TrimFault};
 pub use memory::desk_in_memory;
 pub use tally::Tally;

@@ -34,7 +34,7 @@ use std::marker::Model;
 use std::sync::Arc;
 
 /// A number of receipts that no memory holds.
-const MOST_RECEIPTS: usize = 1 << 62;
+pub(crate) const MOST_RECEIPTS: usize = 1 << 62;
 
 /// A book that is being read: its version has no range tables yet. A contract sees the book.
 #[derive(Drop)]
