@@ -5,3 +5,4 @@ pub mod InitLemmas
 pub mod ImportLemmas
 pub mod PipeLemmas
 pub mod ShowLemmas
+pub mod TrimLemmas

@@ -3,6 +3,7 @@ pub mod Reports
 pub mod Stores
 pub mod Bodies
 pub mod Init
+pub mod Trim
 pub mod Pipe
 pub mod Import
 pub mod Show

@@ -1,5 +1,5 @@
-//! The commands of the program, over any vault, console and clock: `init`, `pipe`, `import` and `show`. Each prints what
-//! comes of it on the console, and gives the status that the program ends with.
+//! The commands of the program, over any vault, console and clock: `init`, `pipe`, `import`, `show` and `trim`. Each
+//! prints what comes of it on the console, and gives the status that the program ends with.
 //!
 //! | status | comes where |
 //! |---|---|
@@ -27,6 +27,7 @@ mod showing;
 mod store;
 #[cfg(test)]
 mod tests;
+mod trimming;
 
 pub use alto_serve::{Clock, FixedClock};
 pub use beginning::init;
@@ -36,3 +37,4 @@ pub use piping::pipe;
 pub use saying::say;
 pub use showing::show;
 pub use store::{open_book, say_unopened};
+pub use trimming::trim;

@@ -1,4 +1,4 @@
-use crate::{Form, import, init, pipe, show};
+use crate::{Form, import, init, pipe, show, trim};
 use alto_http::MemLink;
 use alto_keeper::{Keeper, MemVault, Vault};
 use alto_names::{Epoch, ImportId};
@@ -22,6 +22,13 @@ show x metro | | 0 | {"meta":{"vtag":{"resource-id":"metro","tag":"e1-2"}},"netw
 pipe x | GET /maps/metro HTTP/1.1^^POST /edits/i3 HTTP/1.1^Content-Type: text/csv^Content-Length: 22^^pid-add,metro,west,,,~ | 0 | HTTP/1.1 200 OK^Content-Type: application/alto-networkmap+json^Content-Length: 80^^{"meta":{"vtag":{"resource-id":"metro","tag":"e1-2"}},"network-map":{"east":{}}}HTTP/1.1 200 OK^Content-Type: application/json^Content-Length: 20^^{"moment":100,"n":3}
 pipe x | GET /maps/metro HTTP/1.1^^ | 0 | HTTP/1.1 200 OK^Content-Type: application/alto-networkmap+json^Content-Length: 90^^{"meta":{"vtag":{"resource-id":"metro","tag":"e1-3"}},"network-map":{"east":{},"west":{}}}
 pipe x | GET | 14 |
+trim x 2 | | 0 | trimmed to 1~
+trim x 5 | | 0 | trimmed to 1~
+import x i1 csv | net-add,metro,,,,~ | 0 | accepted n 1 moment 100~
+show x metro | | 0 | {"meta":{"vtag":{"resource-id":"metro","tag":"e1-3"}},"network-map":{"east":{},"west":{}}}~
+trim x 0 | | 0 | trimmed to 3~
+import x i3 csv | pid-add,metro,west,,,~ | 0 | accepted n 3 moment 100~
+trim y 0 | | 9 | damaged row 0~
 show y metro | | 9 | damaged row 0~
 import z i1 csv | net-add,metro,,,,~ | 9 | damaged row 0~"#;
 
@@ -71,6 +78,13 @@ fn does(
             import(alloc, vault, console, &clock, store, id, form)
         }
         "show" => show(alloc, vault, console, store, word(words, 2)),
+        "trim" => trim(
+            alloc,
+            vault,
+            console,
+            store,
+            word(words, 2).parse().unwrap_or(0),
+        ),
         _ => pipe(alloc, vault, console, &clock, store, 3),
     })
 }

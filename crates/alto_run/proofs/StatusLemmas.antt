@@ -1,10 +1,12 @@
 -- The statuses that commands end with: 2 is none of them, and 4 that of none which reads nothing.
 use Rattle.std.proofs.Common.{◌≡◌, ◌≢◌, ◌⊎◌, ◌∙◌, ℕ, List, Option, Some, None, ap, inl, inr}
-use Rattle.std.proofs.Common.{sym}
+use Rattle.std.proofs.Common.{sym, Result, Ok, Err}
 use Rattle.alto_desk.specs.declared.fault.InitFault.{InitFault}
 use Rattle.alto_desk.specs.declared.fault.InitFault.TheVariants as init_fault
 use Rattle.alto_desk.specs.declared.fault.OpenFault.{OpenFault}
 use Rattle.alto_desk.specs.declared.fault.OpenFault.TheVariants as open_fault
+use Rattle.alto_desk.specs.declared.fault.TrimFault.{TrimFault}
+use Rattle.alto_desk.specs.declared.fault.TrimFault.TheVariants as trim_fault
 use Rattle.alto_keeper.specs.Stored.{StoredData, Stays, one_more}
 use Rattle.alto_serve.specs.declared.end.End.{End}
 use Rattle.alto_serve.specs.declared.end.End.TheVariants as end
@@ -16,6 +18,7 @@ use Rattle.alto_commands.specs.Reports.{Tells}
 use Rattle.alto_commands.specs.Show.{IsShown, Shows, document_named, show_report}
 use Rattle.alto_commands.specs.Status.{faults_at, reads_at, status_of}
 use Rattle.alto_commands.specs.Stores.{IsUnopened, open_report}
+use Rattle.alto_commands.specs.Trim.{IsTrimmed, Trims, trim_report}
 use Rattle.alto_commands.proofs.ImportLemmas.{import_status}
 use Rattle.alto_commands.proofs.ReportLemmas.{count_stays, told_not}
 use Rattle.alto_book.specs.Book.{rows_of}
@@ -145,6 +148,23 @@ shows_not at other clean text result held out out' shows = by shows
         told_not at (show_report document) result out out' (show_status at other document) other.n5 other.n1 is.told
     by (inr is) = unopened_not at other clean held result out out' is
 
+-- `trim`
+trim_status : (at : ℕ) → IsOther at → (answer : Result ℕ TrimFault) → (trim_report answer).status ≢ at
+trim_status at other (Ok number) = other.n0
+trim_status at other (Err trim_fault.Keeper) = other.n3
+trim_status at other (Err trim_fault.Memory) = other.n1
+
+pub trims_not : (at : ℕ) → IsOther at → (clean : Type 0) (keep result : ℕ) (held held' : StoredData → Type 0)
+    (out out' : Option (List ℕ)) → Trims clean keep result held held' out out' → result ≢ at
+unfolding Trims
+trims_not at other clean keep result held held' out out' trims = by trims
+  where
+    by : IsTrimmed clean keep result held held' out out'
+        ⊎ (IsUnopened clean held result out out' × (clean → Stays held held')) → result ≢ at
+    by (inl is) =
+        told_not at (trim_report is.answer) result out out' (trim_status at other is.answer) other.n5 other.n1 is.told
+    by (inr is) = unopened_not at other clean held result out out' is.0
+
 -- `serve`
 pub serves_not : (at : ℕ) → IsOther at → (clean : Type 0) (workers result : ℕ) (held held' : StoredData → Type 0)
     (doors doors' : DoorCounts) (out out' : Option (List ℕ))
@@ -235,6 +255,8 @@ does_not at other n4 (task.Import store id form) result time old new does =
     old.left old.out new.left new.out does.0
 does_not at other n4 (task.Show store resource) result time old new does =
     shows_not at other new.clean resource result (old.held store) old.out new.out does.0
+does_not at other n4 (task.Trim store keep) result time old new does =
+    trims_not at other new.clean keep result (old.held store) (new.held store) old.out new.out does.0
 does_not at other n4 (task.Drill number batches) result time old new does =
     prints_not at other (drill_text number batches) result old.out new.out does.0
 does_not at other n4 (task.Help topic) result time old new does =

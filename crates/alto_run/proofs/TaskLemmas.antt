@@ -11,6 +11,7 @@ use Rattle.alto_commands.specs.Init.{Begins}
 use Rattle.alto_commands.specs.Pipe.{Pipes}
 use Rattle.alto_commands.specs.Reports.{Tells}
 use Rattle.alto_commands.specs.Show.{Shows}
+use Rattle.alto_commands.specs.Trim.{Trims}
 use Rattle.alto_service.specs.Serving.{ServesStore}
 use Rattle.alto_run.specs.Runs.{Comes, Does, OthersStay, PrintsText, RunsOut, World, drill_text, store_of}
 
@@ -115,6 +116,21 @@ comes_show asked store resource text path result time old new is at others named
       subst (λ (text : List ℕ). Shows new.clean text result (old.held store) old.out new.out) named
           (subst (λ (path : List ℕ). Shows new.clean text result (old.held path) old.out new.out) at shown),
       subst (λ (path : List ℕ). new.clean → Stays (old.held path) (new.held path)) at stays,
+      doors,
+    )
+    (others_stay asked store path old new (ap store_of is) at others)
+
+-- `trim`
+pub comes_trim : (asked : Task) (store : List ℕ) (keep : ℕ) (path : List ℕ)
+    (result : ℕ) (time : Option ℕ) (old new : World)
+    → asked ≡ task.Trim store keep → path ≡ store → OthersThan path old new
+    → Trims new.clean keep result (old.held path) (new.held path) old.out new.out
+    → new.doors ≡ old.doors
+    → Comes asked result time old new
+unfolding Does
+comes_trim asked store keep path result time old new is at others trimmed doors =
+    comes_as asked (task.Trim store keep) result time old new is (
+      subst (λ (path : List ℕ). Trims new.clean keep result (old.held path) (new.held path) old.out new.out) at trimmed,
       doors,
     )
     (others_stay asked store path old new (ap store_of is) at others)

@@ -8,6 +8,7 @@ use Rattle.alto_commands.specs.Init.{Begins}
 use Rattle.alto_commands.specs.Pipe.{Pipes}
 use Rattle.alto_commands.specs.Reports.{Report, Tells, line_end, says}
 use Rattle.alto_commands.specs.Show.{Shows}
+use Rattle.alto_commands.specs.Trim.{Trims}
 use Rattle.alto_doors.specs.declared.counts.DoorCounts.{DoorCounts}
 use Rattle.alto_drill.specs.Drilled.{drilled_by, text_of}
 use Rattle.alto_service.specs.Serving.{ServesStore}
@@ -15,7 +16,7 @@ use Rattle.alto_service.specs.Serving.{ServesStore}
 -- what is told where the words are outside the grammar
 abbrev pub words_report : Report
 words_report =
-    says 2 (codes "words outside the grammar; commands are init, pipe, serve, import, show, drill" ++ line_end)
+    says 2 (codes "words outside the grammar; commands are init, pipe, serve, import, show, drill, trim" ++ line_end)
 
 -- this text is printed
 unfoldable pub PrintsText : List ℕ → ℕ → Option (List ℕ) → Option (List ℕ) → Type 0
@@ -36,6 +37,7 @@ store_of (task.Pipe store turns) = Some store
 store_of (task.Serve store public operator workers turns) = Some store
 store_of (task.Import store id form) = Some store
 store_of (task.Show store resource) = Some store
+store_of (task.Trim store keep) = Some store
 store_of (task.Drill number batches) = None
 store_of (task.Help topic) = None
 store_of task.Version = None
@@ -71,6 +73,8 @@ Does (task.Import store id form) result time old new =
 Does (task.Show store resource) result time old new =
     Shows new.clean resource result (old.held store) old.out new.out
     × (new.clean → Stays (old.held store) (new.held store)) × (new.doors ≡ old.doors)
+Does (task.Trim store keep) result time old new =
+    Trims new.clean keep result (old.held store) (new.held store) old.out new.out × (new.doors ≡ old.doors)
 Does (task.Drill number batches) result time old new =
     PrintsText (drill_text number batches) result old.out new.out × (new.doors ≡ old.doors)
 Does (task.Help topic) result time old new = Prints result old.out new.out × (new.doors ≡ old.doors)

@@ -5,7 +5,7 @@ ghost use Rattle.alto_words.specs.Words.{task_of};
 ghost use Rattle.alto_commands.specs.Status.{reads_at, writes_at};
 ghost use Rattle.alto_run.specs.Runs.{Comes, IsRefused, PrintsText, drill_text};
 
-use alto_commands::{import, init, pipe, say, show};
+use alto_commands::{import, init, pipe, say, show, trim};
 use alto_doors::Doors;
 use alto_drill::drill;
 use alto_http::Link;
@@ -158,6 +158,7 @@ fn do_task<
         Task::Show { store, resource } => {
             show(alloc, vault, console, store.as_str(), resource.as_str())
         }
+        Task::Trim { store, keep } => trim(alloc, vault, console, store.as_str(), keep),
         Task::Drill { number, batches } => say_drilled(alloc, console, number, batches),
         Task::Help(topic) => say(console, help_text(topic).as_bytes(), 0),
         Task::Version => say(console, VERSION.as_bytes(), 0),

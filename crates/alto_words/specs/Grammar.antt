@@ -44,6 +44,10 @@ show_app = with_rule (with_rule (new_app (codes "show")) (positional (codes "STO
 abbrev pub drill_app : App
 drill_app = with_rule (with_rule (new_app (codes "drill")) (required (option (codes "number")))) (option (codes "batches"))
 
+-- trim STORE --keep K
+abbrev pub trim_app : App
+trim_app = with_rule (with_rule (new_app (codes "trim")) (positional (codes "STORE"))) (required (option (codes "keep")))
+
 -- the program without its commands: none of what clap adds by itself, and a command has to be there
 abbrev pub program_app : App
 program_app = record (new_app (codes "alto")) {
@@ -59,7 +63,8 @@ program_app = record (new_app (codes "alto")) {
 -- the program
 abbrev pub program : App
 program = with_subcommand (with_subcommand (with_subcommand (with_subcommand (with_subcommand (with_subcommand
-    program_app init_app.top) pipe_app.top) serve_app.top) import_app.top) show_app.top) drill_app.top
+    (with_subcommand program_app init_app.top) pipe_app.top) serve_app.top) import_app.top) show_app.top) drill_app.top)
+    trim_app.top
 
 -- a command has one more argument of its own than another
 abbrev pub Adds : Rule → Command → Command → Type 0

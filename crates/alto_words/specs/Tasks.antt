@@ -10,7 +10,7 @@ use Rattle.alto_words.specs.Numbers.{number_in}
 use Rattle.alto_words.specs.declared.command_name.CommandName.{CommandName}
 use Rattle.alto_words.specs.declared.command_name.CommandName.TheVariants as command
 use Rattle.alto_words.specs.declared.task.Task.{Task}
-use Rattle.alto_words.specs.declared.task.Task.TheVariants.{Init, Pipe, Serve, Import, Show, Drill}
+use Rattle.alto_words.specs.declared.task.Task.TheVariants.{Init, Pipe, Serve, Import, Show, Drill, Trim}
 use Rattle.alto_words.specs.declared.task.WordsFault.{WordsFault}
 use Rattle.alto_words.specs.declared.task.WordsFault.TheVariants.{Memory}
 
@@ -62,13 +62,15 @@ task_in command.Import value = all_three Import (value (codes "STORE"))
 task_in command.Show value = both Show (value (codes "STORE")) (value (codes "RESOURCE"))
 task_in command.Drill value = both Drill (option_and_then (number_in 0 4294967295) (value (codes "number")))
     (or_usual 40 (number_in 1 1000) (value (codes "batches")))
+task_in command.Trim value = both Trim (value (codes "STORE")) (option_and_then (number_in 0 4096) (value (codes "keep")))
 
--- numbers that words may say: windows, workers, turns and batches
+-- numbers that words may say
 abbrev pub IsInRange : Task → Type 0
 IsInRange (Init store epoch window) = (2 ≤ window) × (window ≤ 32)
 IsInRange (Pipe store turns) = turns ≤ 1000
 IsInRange (Serve store public operator workers turns) = (1 ≤ workers) × (workers ≤ 64) × (turns ≤ 1000)
 IsInRange (Drill number batches) = (1 ≤ batches) × (batches ≤ 1000)
+IsInRange (Trim store keep) = keep ≤ 4096
 IsInRange _ = Unit {0}
 
 -- an answer gives the value that is meant; where it is a fault other than out of memory, none is meant

@@ -2,7 +2,7 @@ ghost use Rattle.std.specs.Prelude.{◌≡◌, IfOk, false};
 ghost use Rattle.clap.specs.Words.{app_of, with_subcommand};
 ghost use Rattle.clap.specs.declared.builder.command.Command.TheViews.{out-Command as fields_of};
 ghost use Rattle.alto_words.specs.Grammar.{Adds, option, positional, program, program_app, required};
-ghost use Rattle.alto_words.specs.Grammar.{drill_app, import_app, init_app, pipe_app, serve_app, show_app};
+ghost use Rattle.alto_words.specs.Grammar.{drill_app, import_app, init_app, pipe_app, serve_app, show_app, trim_app};
 
 use clap::{Arg, Command};
 use std::alloc::{AllocError, Global};
@@ -16,7 +16,8 @@ pub(crate) fn alto<'a>(alloc: Global) -> Result<Command<'a>, AllocError>
     let alto = with_command(alto, serve(alloc)?)?;
     let alto = with_command(alto, import(alloc)?)?;
     let alto = with_command(alto, show(alloc)?)?;
-    with_command(alto, drill(alloc)?)
+    let alto = with_command(alto, drill(alloc)?)?;
+    with_command(alto, trim(alloc)?)
 }
 
 /// The program without its commands. What `clap` adds by itself is left out.
@@ -82,6 +83,14 @@ fn drill<'a>(alloc: Global) -> Result<Command<'a>, AllocError>
 {
     let drill = with_required_option(alloc, Command::new(alloc, "drill"), "number")?;
     with_option(alloc, drill, "batches")
+}
+
+fn trim<'a>(alloc: Global) -> Result<Command<'a>, AllocError>
+    ensures app { IfOk result (λ command. app_of command ≡ trim_app) }
+    ensures local { IfOk result (λ command. (fields_of command).has_globals ≡ false) }
+{
+    let trim = with_positional(alloc, Command::new(alloc, "trim"), "STORE")?;
+    with_required_option(alloc, trim, "keep")
 }
 
 /// The program with one more command.

@@ -12,16 +12,18 @@ pub enum CommandName {
     Import,
     Show,
     Drill,
+    Trim,
 }
 
 /// Every command, in the order in which they are listed.
-const COMMANDS: [CommandName; 6] = [
+const COMMANDS: [CommandName; 7] = [
     CommandName::Init,
     CommandName::Pipe,
     CommandName::Serve,
     CommandName::Import,
     CommandName::Show,
     CommandName::Drill,
+    CommandName::Trim,
 ];
 
 impl CommandName {
@@ -43,6 +45,7 @@ impl CommandName {
             CommandName::Import => "import",
             CommandName::Show => "show",
             CommandName::Drill => "drill",
+            CommandName::Trim => "trim",
         }
     }
 }

@@ -5,7 +5,7 @@ use crate::task::Topic;
 
 /// What is printed where words are outside the grammar.
 pub const WORDS_FAULT: &str =
-    "words outside the grammar; commands are init, pipe, serve, import, show, drill\n";
+    "words outside the grammar; commands are init, pipe, serve, import, show, drill, trim\n";
 
 /// What is printed for `--version`.
 pub const VERSION: &str = "alto 0.1.0\n";
@@ -20,6 +20,7 @@ pub fn help_text(topic: Topic) -> &'static str {
         Topic::Command(CommandName::Import) => IMPORT,
         Topic::Command(CommandName::Show) => SHOW,
         Topic::Command(CommandName::Drill) => DRILL,
+        Topic::Command(CommandName::Trim) => TRIM,
     }
 }
 
@@ -33,6 +34,7 @@ alto: an ALTO server (RFC 7285) over a store of network, cost and property maps
   alto import STORE --id ID --form FORM   take the edits of standard input
   alto show STORE RESOURCE                print a document
   alto drill --number X [--batches B]     follow every update of a book in memory
+  alto trim STORE --keep K                make room for new batches
   alto COMMAND --help                     say more of a command
   alto --help, alto --version             print this text, or the version
 
@@ -132,4 +134,16 @@ Makes every update of three maps in both forms, applies it, and compares what co
 Prints how many there were, how many differ, and the digest of all of them. Needs no store.
 
   alto drill --number 7
+";
+
+const TRIM: &str = "\
+alto trim STORE --keep K: make room for new batches, by taking older ones into the base
+
+  STORE     where the store is; no server may have it open
+  --keep K  how many of the last batches stay: 0 to 4,096
+
+Prints the number of the last batch that the base has. Every import's number stays known, and every document is what
+it was; updates from before that number can't be had any more. A store holds 4,096 batches behind its base.
+
+  alto trim metro.db --keep 1000
 ";

@@ -7,6 +7,7 @@
 //! import STORE --id ID --form csv (or json)     --version
 //! show STORE RESOURCE
 //! drill --number X [--batches B]
+//! trim STORE --keep K
 //! serve STORE --public ADDRESS --operator ADDRESS --workers N [--turns T]
 //! ```
 #![tactic(auto)]

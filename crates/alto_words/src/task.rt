@@ -59,6 +59,13 @@ pub enum Task {
         /// How many batches the book has: 1 to 1,000.
         batches: u32,
     },
+    /// Moves the base of a store's book on.
+    Trim {
+        /// Where the store is.
+        store: Name,
+        /// How many batches stay beside the base: 0 to 4,096.
+        keep: u32,
+    },
     /// Prints a help text.
     Help(Topic),
     /// Prints the version.

@@ -1,7 +1,7 @@
 ghost use Rattle.std.specs.Prelude.{IfOk};
 ghost use Rattle.clap.specs.Words.{first_value, found_of};
 ghost use Rattle.alto_words.specs.Tasks.{Gives, IsInRange, task_in};
-ghost use Rattle.alto_words.specs.declared.command_name.CommandName.TheVariants.{Drill, Import, Init, Pipe, Serve, Show};
+ghost use Rattle.alto_words.specs.declared.command_name.CommandName.TheVariants.{Drill, Import, Init, Pipe, Serve, Show, Trim};
 
 use crate::command_name::CommandName;
 use crate::task::{Task, WordsFault};
@@ -31,6 +31,7 @@ pub(crate) fn task_in(
         CommandName::Import => import(alloc, values),
         CommandName::Show => show(alloc, values),
         CommandName::Drill => drill(values),
+        CommandName::Trim => trim(alloc, values),
     }
 }
 
@@ -101,4 +102,13 @@ fn drill(values: &ArgMatches) -> Result<Task, WordsFault>
     let number = number(values.get_str("number"), 0, u32::MAX)?;
     let batches = number_or(USUAL_BATCHES, values.get_str("batches"), 1, 1_000)?;
     Ok(Task::Drill { number, batches })
+}
+
+fn trim(alloc: Global, values: &ArgMatches) -> Result<Task, WordsFault>
+    ensures gives { Gives (task_in Trim (first_value (found_of values.now))) result }
+    ensures ranges { IfOk result IsInRange }
+{
+    let store = text(alloc, values.get_str("STORE"))?;
+    let keep = number(values.get_str("keep"), 0, 4_096)?;
+    Ok(Task::Trim { store, keep })
 }

@@ -5,7 +5,7 @@ ghost use Rattle.edit_forms.specs.declared.form.Form.TheVariants.{Csv, Json};
 ghost use Rattle.alto_words.specs.Lines.{AsksFor, IsOutside};
 ghost use Rattle.alto_words.specs.Words.{task_of};
 ghost use Rattle.alto_words.specs.declared.command_name.CommandName.TheVariants as command;
-ghost use Rattle.alto_words.specs.declared.task.Task.TheVariants.{Drill, Help, Import, Init, Pipe, Serve, Show, Version};
+ghost use Rattle.alto_words.specs.declared.task.Task.TheVariants.{Drill, Help, Import, Init, Pipe, Serve, Show, Trim, Version};
 ghost use Rattle.alto_words.specs.declared.task.Topic.TheVariants as topic;
 
 /// Each command, as it is mostly written.
@@ -22,6 +22,7 @@ pub fn each_command_asks_for_its_task()
     ensures show { AsksFor (codes "show x metro") (Show (codes "x") (codes "metro")) }
     ensures drill { AsksFor (codes "drill --number 7") (Drill 7 40) }
     ensures longer_drill { AsksFor (codes "drill --batches=1000 --number 4294967295") (Drill 4294967295 1000) }
+    ensures trim { AsksFor (codes "trim x --keep 4") (Trim (codes "x") 4) }
     ensures help { AsksFor (codes "--help") (Help topic.Program) }
     ensures help_of_a_command { AsksFor (codes "import --help") (Help (topic.Command command.Import)) }
     ensures version { AsksFor (codes "--version") Version }
@@ -57,6 +58,7 @@ pub fn arguments_are_those_of_the_command()
     ensures no_option { IsOutside (codes "import x --id i9") }
     ensures no_value { IsOutside (codes "import x --form csv --id") }
     ensures no_side { IsOutside (codes "serve x --public a --workers 4") }
+    ensures no_keep { IsOutside (codes "trim x") }
     ensures no_positional { IsOutside (codes "show x") }
     ensures one_positional_more { IsOutside (codes "show x metro y") }
     ensures another_option { IsOutside (codes "show x metro --turns 3") }
@@ -69,6 +71,8 @@ pub fn numbers_are_digits_in_a_range()
     ensures zeros { AsksFor (codes "pipe x --turns 0000001000") (Pipe (codes "x") 1000) }
     ensures least { AsksFor (codes "pipe x --turns 0") (Pipe (codes "x") 0) }
     ensures greatest { AsksFor (codes "init x --epoch e1 --window 32") (Init (codes "x") (codes "e1") 32) }
+    ensures none_kept { AsksFor (codes "trim x --keep=0") (Trim (codes "x") 0) }
+    ensures most_kept { AsksFor (codes "trim --keep 4096 x") (Trim (codes "x") 4096) }
     ensures no_digit { IsOutside (codes "pipe x --turns=") }
     ensures eleven_digits { IsOutside (codes "pipe x --turns 00000000003") }
     ensures sign { IsOutside (codes "pipe x --turns +3") }
@@ -83,6 +87,7 @@ pub fn numbers_are_digits_in_a_range()
     ensures many_batches { IsOutside (codes "drill --number 7 --batches 1001") }
     ensures number_past_32_bits { IsOutside (codes "drill --number 4294967296") }
     ensures no_window { IsOutside (codes "init x --epoch e1 --window 0") }
+    ensures more_kept { IsOutside (codes "trim x --keep 4097") }
 {}
 
 /// Epochs, ids and forms are of their alphabets. Stores and resources are any text, an empty one too.
@@ -98,12 +103,12 @@ pub fn values_are_of_their_kinds()
 /// Words that name no command ask for nothing; help and the version stand alone or behind a command.
 pub fn other_words_are_outside()
     ensures no_words { task_of [] ≡ None }
-    ensures no_command { IsOutside (codes "trim x") }
+    ensures no_command { IsOutside (codes "follow x") }
     ensures prefix_of_a_command { IsOutside (codes "sho x metro") }
     ensures help_as_a_word { IsOutside (codes "help") }
     ensures short_help { IsOutside (codes "-h") }
     ensures help_among_arguments { IsOutside (codes "show x metro --help") }
-    ensures help_of_no_command { IsOutside (codes "trim --help") }
+    ensures help_of_no_command { IsOutside (codes "follow --help") }
     ensures help_before_a_command { IsOutside (codes "--help show") }
     ensures version_of_a_command { IsOutside (codes "show --version") }
 {}

@@ -1,9 +1,9 @@
 use Rattle.std.proofs.Common.{refl}
 use Rattle.alto_service.proofs.StatusLemmas.{counted_at}
 use Rattle.alto_run.proofs.StatusLemmas.{begins_not, no_read, pipes_counted, prints, prints_no_fault, prints_not}
-use Rattle.alto_run.proofs.StatusLemmas.{reads_stay, serves_not, shows_not}
+use Rattle.alto_run.proofs.StatusLemmas.{reads_stay, serves_not, shows_not, trims_not}
 use Rattle.alto_run.proofs.TaskLemmas.{comes_drill, comes_help, comes_import, comes_init, comes_pipe, comes_serve}
-use Rattle.alto_run.proofs.TaskLemmas.{comes_show, comes_version, in_range}
+use Rattle.alto_run.proofs.TaskLemmas.{comes_show, comes_trim, comes_version, in_range}
 use Rattle.alto_run.proofs.running.do_task.Goals as goal
 
 -- ---- what commands ask for
@@ -113,6 +113,23 @@ returns-in-Show-clause-reads g c =
 
 pub returns-in-Show-clause-writes : goal.returns-in-Show-clause-writes
 returns-in-Show-clause-writes g c = c.show.ensures.writes
+
+-- ---- `trim`
+
+pub returns-in-Trim-clause-done : goal.returns-in-Trim-clause-done
+returns-in-Trim-clause-done g c =
+    comes_trim _ _ _ _ _ _ _ _ c.in-Trim.is c.as_str-in-Trim.ensures.value c.trim.ensures.others
+    c.trim.ensures.trimmed refl
+
+pub returns-in-Trim-clause-counted : goal.returns-in-Trim-clause-counted
+returns-in-Trim-clause-counted g c = counted_at _ _ _ c.trim.ensures.faults
+
+pub returns-in-Trim-clause-reads : goal.returns-in-Trim-clause-reads
+returns-in-Trim-clause-reads g c =
+    reads_stay _ _ _ c.trim.ensures.reads (trims_not 4 no_read _ _ _ _ _ _ _ c.trim.ensures.trimmed)
+
+pub returns-in-Trim-clause-writes : goal.returns-in-Trim-clause-writes
+returns-in-Trim-clause-writes g c = c.trim.ensures.writes
 
 -- ---- what is printed alone
 

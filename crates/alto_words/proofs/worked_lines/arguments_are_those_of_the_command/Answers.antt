@@ -10,6 +10,7 @@ returns c = record {
   no_option = refl;
   no_value = refl;
   no_side = refl;
+  no_keep = refl;
   no_positional = refl;
   one_positional_more = refl;
   another_option = refl;

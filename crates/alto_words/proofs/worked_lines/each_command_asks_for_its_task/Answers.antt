@@ -15,6 +15,7 @@ returns c = record {
   show = refl;
   drill = refl;
   longer_drill = refl;
+  trim = refl;
   help = refl;
   help_of_a_command = refl;
   version = refl;

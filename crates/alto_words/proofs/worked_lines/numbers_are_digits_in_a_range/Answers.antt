@@ -8,6 +8,8 @@ returns c = record {
   zeros = refl;
   least = refl;
   greatest = refl;
+  none_kept = refl;
+  most_kept = refl;
   no_digit = refl;
   eleven_digits = refl;
   sign = refl;
@@ -22,4 +24,5 @@ returns c = record {
   many_batches = refl;
   number_past_32_bits = refl;
   no_window = refl;
+  more_kept = refl;
 }
