@@ -1,42 +1,74 @@
-//! `alto`: the server as a program. `run` is the whole of it over any console and clock; `main` gives it the real ones.
+//! `alto`: the server as a program. `run` is the whole of it over any vault, console, doors, bell and clock; `main` gives it
+//! the real ones.
 #![tactic(auto)]
 
 mod console;
-mod grammar;
-mod run;
 mod system_clock;
+mod telling_doors;
 #[cfg(test)]
 mod tests;
+mod thread_bell;
+mod words;
 
+use alto_doors::Doors;
+use alto_files::FileVault;
+use alto_http::Link;
+use alto_hub::Bell;
+use alto_keeper::Vault;
+use alto_run::run;
+use alto_serve::Clock;
 use console::Console;
-use json_tree::Name;
-use run::run;
-use std::alloc::AllocError;
+use std::alloc::{AllocError, Global};
+use std::env::{self, Args};
+use std::io;
 use std::process::ExitCode;
-use std::rt::Env;
-use std::{env, io};
+use std::sync::Wait;
+use std::thread::Threads;
 use system_clock::SystemClock;
+use telling_doors::TellingDoors;
+use thread_bell::ThreadBell;
+use words::words_of;
 
 fn main(rt: HostRuntime) -> ExitCode {
+    let mut vault = FileVault::new(&rt);
     let mut console = Console::new(rt.reader(), io::writer(&rt));
+    let mut doors = TellingDoors::new(&rt);
+    let bell = ThreadBell::new(&rt);
     let clock = SystemClock::new(&rt);
-    let status = match words(&rt) {
-        Ok(words) => run(rt.alloc(), &words, &mut console, &clock),
-        Err(_) => 1,
-    };
+    let status = run_on(
+        &rt,
+        rt.alloc(),
+        env::args(&rt),
+        &mut vault,
+        &mut console,
+        &mut doors,
+        &bell,
+        &clock,
+    );
     ExitCode::from(status)
 }
 
-/// The words after the program's name. A word that isn't UTF-8 is none of the grammar's, so then there are no words.
-fn words(rt: &(impl Env + AllocGlobal)) -> Result<Vec<Name>, AllocError> {
-    let mut words = Vec::new(rt.alloc());
-    let all = match env::args(rt) {
-        Ok(all) => all,
-        Err(fault) if fault.kind() == io::ErrorKind::OutOfMemory => return Err(AllocError),
-        Err(_) => return Ok(words),
-    };
-    for word in all.skip(1) {
-        words.push(Name::new(word))?;
+/// Runs the program on its arguments, as `run` does on its words, and gives the status: 1 where memory ran out before the
+/// words were read.
+fn run_on<
+    H: Threads + Wait + Sync,
+    V: Vault<Keeper: Send>,
+    L: Link,
+    D: Doors<Link: Send, Door: Send>,
+    B: Bell + Sync,
+    C: Clock + Sync,
+>(
+    rt: &H,
+    alloc: Global,
+    arguments: io::Result<Args>,
+    vault: &mut V,
+    console: &mut L,
+    doors: &mut D,
+    bell: &B,
+    clock: &C,
+) -> u8 {
+    match words_of(alloc, arguments) {
+        Ok(words) => run(rt, alloc, &words, vault, console, doors, bell, clock),
+        Err(AllocError) => 1,
     }
-    Ok(words)
 }

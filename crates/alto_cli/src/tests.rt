@@ -1,14 +1,16 @@
+mod commands;
 mod imports;
 mod maps;
 mod queries;
 
-use crate::run::run;
 use alto_answers::{Place, Query, Routes, Side};
 use alto_book::EditFault;
+use alto_commands::{init, pipe};
 use alto_http::MemLink;
+use alto_keeper::MemVault;
+use alto_names::Epoch;
 use alto_replies::{edit_reply, reply_bytes};
 use alto_serve::FixedClock;
-use json_tree::Name;
 use std::alloc::{AllocError, Global};
 use std::test::Fail;
 
@@ -169,6 +171,17 @@ fn reply(alloc: Global, status: &str, kind: &str, body: &str) -> Result<String, 
     )
 }
 
+/// A vault whose store `x` was begun with the epoch `e1` and the window 8.
+fn begun(alloc: Global) -> Result<MemVault, AllocError> {
+    let mut vault = MemVault::new(alloc);
+    let mut link = MemLink::new(alloc, &[], 100)?;
+    let Ok(epoch) = Epoch::read(alloc, b"e1") else {
+        return Err(AllocError);
+    };
+    init(alloc, &mut vault, &mut link, "x", &epoch, 8);
+    Ok(vault)
+}
+
 /// The bytes that a connection brings, and those that it is to be answered with.
 #[derive(Drop)]
 struct Talk {
@@ -224,19 +237,16 @@ impl Talk {
         Ok(())
     }
 
-    /// Whether the program on these words, reading by these sizes, answers so and ends with status 0.
+    /// Whether the console is answered so, read by these sizes and with so many turns, and the status is 0.
     fn is_answered(
         &self,
         alloc: Global,
-        words: &[&str],
+        turns: u32,
         sizes: Vec<usize>,
     ) -> Result<bool, AllocError> {
-        let mut names = Vec::new(alloc);
-        for word in words {
-            names.push(Name::from_str(alloc, word)?)?;
-        }
+        let mut vault = begun(alloc)?;
         let mut link = MemLink::new(alloc, self.input.as_bytes(), 60_000)?.with_sizes(sizes);
-        let status = run(alloc, &names, &mut link, &FixedClock(100));
+        let status = pipe(alloc, &mut vault, &mut link, &FixedClock(100), "x", turns);
         Ok(status == 0 && link.output() == self.output.as_bytes())
     }
 }
@@ -247,14 +257,10 @@ fn each_request_has_its_reply(rt: HostRuntime) -> Result<(), Fail> {
     let mut talk = Talk::new(alloc);
     for line in TALK.lines() {
         talk.add(alloc, line)?;
-        assert!(rt;
-            talk.is_answered(alloc, &["pipe", "x"], Vec::new(alloc))?,
-            "{line}"
-        );
+        assert!(rt; talk.is_answered(alloc, 30, Vec::new(alloc))?, "{line}");
     }
     let ones = vec![in alloc; 1usize]?;
-    let words = ["pipe", "x", "--turns", "3"];
-    assert!(rt; talk.is_answered(alloc, &words, ones)?, "byte by byte");
+    assert!(rt; talk.is_answered(alloc, 3, ones)?, "byte by byte");
     Ok(())
 }
 
@@ -273,7 +279,7 @@ fn views_and_edges_behind_thirty_one_imports(rt: HostRuntime) -> Result<(), Fail
         talk.add(alloc, line.as_str())?;
     }
     talk.add_lines(alloc, LATER_TALK)?;
-    assert!(rt; talk.is_answered(alloc, &["pipe", "x"], Vec::new(alloc))?);
+    assert!(rt; talk.is_answered(alloc, 30, Vec::new(alloc))?);
     Ok(())
 }
 
@@ -294,10 +300,7 @@ fn refused_heads_close(rt: HostRuntime) -> Result<(), Fail> {
                 body.as_str(),
             )?,
         };
-        assert!(rt;
-            talk.is_answered(alloc, &["pipe", "x"], Vec::new(alloc))?,
-            "{line}"
-        );
+        assert!(rt; talk.is_answered(alloc, 30, Vec::new(alloc))?, "{line}");
     }
     Ok(())
 }

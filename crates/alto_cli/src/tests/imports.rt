@@ -14,7 +14,7 @@ impl Talk {
 
     /// Whether the program gives each request its reply.
     fn is_served(&self, alloc: Global) -> Result<bool, AllocError> {
-        self.is_answered(alloc, &["pipe", "x"], Vec::new(alloc))
+        self.is_answered(alloc, 30, Vec::new(alloc))
     }
 }
 

@@ -135,7 +135,7 @@ fn is_served_so(alloc: Global, table: &str) -> Result<bool, AllocError> {
     let mut talk = Talk::new(alloc);
     talk.add_lines(alloc, SCRIPT)?;
     talk.add_lines(alloc, table)?;
-    talk.is_answered(alloc, &["pipe", "x"], Vec::new(alloc))
+    talk.is_answered(alloc, 30, Vec::new(alloc))
 }
 
 #[test]

@@ -130,7 +130,7 @@ fn are_served_so(alloc: Global, tables: &[&str]) -> Result<bool, AllocError> {
     for table in tables {
         talk.add_lines(alloc, table)?;
     }
-    talk.is_answered(alloc, &["pipe", "x"], Vec::new(alloc))
+    talk.is_answered(alloc, 30, Vec::new(alloc))
 }
 
 #[test]
@@ -167,7 +167,7 @@ fn path_vectors_are_two_parts(rt: HostRuntime) -> Result<(), Fail> {
         PATH_TYPE,
         PATH_REPLY.replace(alloc, "\n", "\r\n")?.as_str(),
     )?;
-    let served = talk.is_answered(alloc, &["pipe", "x"], Vec::new(alloc))?;
+    let served = talk.is_answered(alloc, 30, Vec::new(alloc))?;
     assert!(rt; served, "both parts");
     Ok(())
 }
