@@ -76,6 +76,21 @@ def fault_of_pieces(store):
     return None if is_good and rows[:4].hex() == "45010003" else f"the pieces are {[piece.hex() for _, piece in pieces]}"
 
 
+def fault_of_broken_bases(store):
+    """Says what is wrong with a base that has two receipts of one id, and with one whose first piece isn't one."""
+    store.begin("net-add,metro,,,,")
+    store.take(2, "pid-add,metro,east,,,")
+    store.run("trim", "x", "--keep", "0")
+    with store.database("x") as database:
+        ((receipts,),) = database.execute("SELECT bytes FROM alto_row WHERE n = -2")
+        database.execute("UPDATE alto_row SET bytes = ? WHERE n = -2", (receipts.replace(b"\x02i2", b"\x02i1"),))
+    repeated = store.run("show", "x", "metro")
+    with store.database("x") as database:
+        database.execute("UPDATE alto_row SET bytes = x'4302' WHERE n = -1")
+    ended = repeated, store.run("show", "x", "metro")
+    return None if ended == ((9, b"bad book row 0 rule B6\n"), (9, b"damaged base 0\n")) else f"the runs ended with {ended}"
+
+
 def fault_of_words(store):
     """Says what is wrong with numbers of batches that are none, and with a store that isn't there."""
     store.begin()
@@ -92,6 +107,7 @@ def checks(program):
     for name, fault_of in (
         ("a trim: edges, receipts and the map", fault_of_edges),
         ("a trim: the pieces of the base", fault_of_pieces),
+        ("a broken base", fault_of_broken_bases),
         ("a trim: words", fault_of_words),
     ):
         yield name, outcome(of_store(fault_of), program)
