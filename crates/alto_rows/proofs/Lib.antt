@@ -17,3 +17,4 @@ pub mod NeedsLemmas
 pub mod SoundLemmas
 pub mod DeletionLemmas
 pub mod StandsLemmas
+pub mod AheadLemmas

@@ -1,7 +1,9 @@
 -- The place of a key in sorted rows: what stands before and behind it, and what an edit there does.
-use Rattle.std.proofs.Common.{◌≡◌, ℕ, ◌+◌, ◌<◌, refl, ap, sym, ◌∙◌, arith, length-append, take, drop, get_or, suc, append-nil}
+use Rattle.std.proofs.Common.{◌≡◌, ℕ, ◌+◌, ◌<◌, refl, ap, sym, ◌∙◌, arith, length-append, take, drop, get_or, zero, suc, append-nil}
 use Rattle.std.proofs.Math.Seq.{drop-append_seam, drop-append-add, take-append_seam, get_or-append_seam}
-use Rattle.std.specs.Prelude.{[], ◌∷◌, ◌++◌, length, Option, Some, None, Ok, Err}
+use Rattle.std.specs.Prelude.{true, [], ◌∷◌, ◌++◌, length, Option, Some, None, Ok, Err, slice_get}
+use Rattle.std.specs.List.Sorted.{IsStrictlySortedBy}
+use Rattle.std.specs.Ordering.{is_lt}
 use Rattle.std.specs.declared.cmp.Ordering.{Ordering}
 use Rattle.std.specs.declared.cmp.Ordering.TheVariants.{Less, Equal, Greater}
 use Rattle.alto_rows.specs.declared.key.Key.{Key}
@@ -9,9 +11,14 @@ use Rattle.alto_rows.specs.declared.value.Value.{Value}
 use Rattle.alto_rows.specs.Order.{key_cmp}
 use Rattle.alto_rows.specs.Rows.{Rows, AreSorted, value_of, with_value, rows_from, rows_past}
 use Rattle.alto_rows.specs.Place.{rows_before, place_of}
-use Rattle.alto_rows.proofs.OrderLemmas.{key_cmp_exact, key_cmp_itself}
-use Rattle.alto_rows.proofs.RowsLemmas.{AreBefore, ArePast, past_first, past_lesser, sorted_rest, before_middle, past_middle, value_of-before, value_of-past, value_of-middle}
+use Rattle.alto_rows.proofs.OrderLemmas.{key_cmp_exact, key_cmp_itself, key_cmp_total}
+use Rattle.alto_rows.proofs.RowsLemmas.{AreBefore, ArePast, greater_back, less_back, past_first, past_lesser, sorted_join, sorted_more, sorted_rest, before_middle, past_middle, value_of-before, value_of-past, value_of-middle}
 use Rattle.alto_rows.proofs.RunLemmas.{rows_from-before, rows_from-past, rows_from-at, rows_past-before, rows_past-past, rows_past-middle}
+
+-- no rows are sorted
+no_rows : AreSorted []
+unfolding IsStrictlySortedBy
+no_rows = tt
 
 -- ---- the rows before a key
 
@@ -78,6 +85,41 @@ placed (row ∷ rows) key s = by (placed rows key (sorted_rest row rows s)) (key
     by (missing at m) Greater e =
         missing (suc at) (record { front = row ∷ m.front; back = m.back; whole = ap (λ (more : Rows). row ∷ more) m.whole; place = ap suc m.place; before = (e, m.before); past = m.past })
 
+-- a key before the first row has its place there
+pub place_before_first : (rows : Rows) (key : Key) (first : Key × Value) → AreSorted rows → slice_get rows 0 ≡ Some first → key_cmp key first.0 ≡ Less
+    → place_of rows key ≡ Err 0
+place_before_first [] key first s is e = cc
+place_before_first (row ∷ rows) key first s is e =
+    let same : row ≡ first = cc in
+    let less : key_cmp key row.0 ≡ Less = rw same e in
+    place_of-missing (row ∷ rows) key 0
+    (record { front = []; back = row ∷ rows; whole = refl; place = refl; before = tt; past = (less, past_lesser key row.0 less rows (past_first row rows s)) })
+
+-- what is before is less
+pub less_tests : (o : Ordering) → is_lt o ≡ true → o ≡ Less
+less_tests Less h = refl
+less_tests Equal h = cc
+less_tests Greater h = cc
+
+-- rows are before a key where the last one is
+before_last : (rows : Rows) (at : ℕ) (d : Key × Value) (key : Key) → AreSorted rows → suc at ≡ length rows → key_cmp (get_or rows at d).0 key ≡ Less
+    → AreBefore key rows
+before_last [] at d key s last less = tt
+before_last (row ∷ []) zero d key s last less = (less_back row.0 key less, tt)
+before_last (row ∷ []) (suc at) d key s last less = absurd (omega (arith, last))
+before_last (row ∷ next ∷ rows) zero d key s last less = absurd (omega (arith, last))
+before_last (row ∷ next ∷ rows) (suc at) d key s last less =
+    let more : AreBefore key (next ∷ rows) = before_last (next ∷ rows) at d key (sorted_rest row (next ∷ rows) s) (omega (arith, last)) less in
+    let step : key_cmp row.0 next.0 ≡ Less = (past_first row (next ∷ rows) s).0 in
+    (less_back row.0 key (key_cmp_total.trans row.0 next.0 key step (greater_back key next.0 more.0)), more)
+
+-- so the key goes behind them
+pub place_behind_last : (rows : Rows) (at : ℕ) (d : Key × Value) (key : Key) → AreSorted rows → at < length rows → length rows ≡ at + 1
+    → key_cmp (get_or rows at d).0 key ≡ Less → place_of rows key ≡ Err (length rows)
+place_behind_last rows at d key s within last less =
+    place_of-missing rows key (length rows)
+    (record { front = rows; back = []; whole = sym (append-nil rows); place = refl; before = before_last rows at d key s (omega (arith, last)) less; past = tt })
+
 -- what a place says where it is a row's
 pub found_from_place : (rows : Rows) (key : Key) (at : ℕ) → AreSorted rows → place_of rows key ≡ Ok at → IsFound rows key at
 found_from_place rows key at s h = by (placed rows key s)
@@ -99,6 +141,25 @@ missing_from_place rows key at s h = by (placed rows key s)
         let same : other ≡ at = cc in
         rw (← same) m
     by (found other f) = let one : Ok other ≡ Err at = sym (place_of-found rows key other s f) ∙ h in cc
+
+-- where a key goes behind all rows they are before it
+before_gap : (rows : Rows) (key : Key) → AreSorted rows → place_of rows key ≡ Err (length rows) → AreBefore key rows
+before_gap rows key s h = by (missing_from_place rows key (length rows) s h)
+  where
+    none : (front back : Rows) → length (front ++ back) ≡ length front → back ≡ []
+    none front [] e = refl
+    none front (row ∷ back) e = absurd (omega (arith, e, length-append front (row ∷ back)))
+
+    by : IsMissing rows key (length rows) → AreBefore key rows
+    by m =
+        let empty : m.back ≡ [] = none m.front m.back (ap length (sym m.whole) ∙ m.place) in
+        let all : rows ≡ m.front = m.whole ∙ rw empty (append-nil m.front) in
+        rw all m.before
+
+-- and with its row behind them they stay sorted
+pub sorted_with_last : (rows : Rows) (key : Key) (value : Value) → AreSorted rows → place_of rows key ≡ Err (length rows) → AreSorted (rows ++ (key, value) ∷ [])
+sorted_with_last rows key value s h =
+    sorted_join key rows ((key, value) ∷ []) s (before_gap rows key s h) (sorted_more (key, value) [] tt no_rows) (λ low greater. (greater_back key low greater, tt))
 
 -- ---- reads at a place
 

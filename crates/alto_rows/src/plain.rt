@@ -1,6 +1,7 @@
-ghost use Rattle.std.specs.Prelude.{◌≡◌, ◌++◌, [], IfOk, OnOk, length, option_copied, option_map, slice_get};
+ghost use Rattle.std.specs.Prelude.{◌≡◌, ◌∷◌, ◌++◌, [], Err, IfOk, IsTrue, OnOk, length, option_copied, option_map, slice_get};
 ghost use Rattle.std.specs.BTreeMap.{Updates};
 ghost use Rattle.std.specs.List.Sorted.{IsSearchInRange};
+ghost use Rattle.std.specs.Ordering.{is_lt};
 ghost use Rattle.alto_rows.specs.Changes.{AreOrdered, DoAs, changed, own_row};
 ghost use Rattle.alto_rows.specs.Order.{key_cmp};
 ghost use Rattle.alto_rows.specs.Place.{place_of, rows_before};
@@ -83,12 +84,65 @@ impl RowStore for PlainRows {
     }
 }
 
-/// The place of the key's row, or where it would go. One binary search.
+impl PlainRows {
+    /// No rows. Takes no memory.
+    pub fn new(alloc: Global) -> PlainRows
+        ensures { result ≡ [] }
+    {
+        PlainRows {
+            rows: Vec::new(alloc),
+        }
+    }
+
+    /// Whether a key is after those of all rows. One comparison.
+    pub fn is_past(&self, key: &Key) -> bool
+        ensures { IsTrue result → place_of self.now key.now ≡ Err (length self.now) }
+    {
+        ends_before(&self.rows, key)
+    }
+
+    /// The rows with one more, whose key is after those of all others. No row is copied.
+    pub fn with_last_row(self, key: Key, value: Value) -> Result<PlainRows, AllocError>
+        requires { place_of self key ≡ Err (length self) }
+        ensures { IfOk result (λ store. store ≡ self ++ (key, value) ∷ []) }
+    {
+        let PlainRows { mut rows } = self;
+        rows.push((key, value))?;
+        Ok(PlainRows { rows })
+    }
+}
+
+/// Whether all rows are before a key. One comparison.
+fn ends_before(rows: &[(Key, Value)], key: &Key) -> bool
+    requires { AreSorted rows.now }
+    ensures { IsTrue result → place_of rows.now key.now ≡ Err (length rows.now) }
+{
+    match rows.len().checked_sub(1) {
+        Some(last) => is_before(&rows[last].0, key),
+        None => true,
+    }
+}
+
+/// Whether a key is before another.
+#[tactic(auto, using(crate::proofs::OrderLemmas::derived_key_cmp))]
+fn is_before(key: &Key, other: &Key) -> bool
+    ensures { result ≡ is_lt (key_cmp key.now other.now) }
+{
+    key.cmp(other).is_lt()
+}
+
+/// The place of the key's row, or where it would go. One comparison where that is before all rows, else a binary search.
 fn place(rows: &[(Key, Value)], key: &Key) -> Result<usize, usize>
     requires { AreSorted rows.now }
     ensures place { result ≡ place_of rows.now key.now }
     ensures within { IsSearchInRange result (length rows.now) }
 {
+    let Some(first) = rows.first() else {
+        return Err(0);
+    };
+    if is_before(key, &first.0) {
+        return Err(0);
+    }
     rows.binary_search_by(|row| row.0.cmp(key))
 }
 

@@ -50,6 +50,15 @@ pub(crate) fn walk_from_span<'a, R: RowStore>(store: &'a R, span: &Span) -> Walk
     }
 }
 
+impl<'a, R: RowStore> Walk<'a, R> {
+    /// The first rows that are left, as many as lie together in memory.
+    pub(crate) fn ahead(&self) -> &'a [(Key, Value)]
+        ensures { Begins self.now result.now }
+    {
+        self.run
+    }
+}
+
 impl<'a, R: RowStore> Iterator for Walk<'a, R> {
     type Item = &'a (Key, Value);
 

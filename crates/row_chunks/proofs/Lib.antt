@@ -5,3 +5,5 @@ pub mod PieceLemmas
 pub mod ReadLemmas
 pub mod SplitLemmas
 pub mod ApartLemmas
+pub mod RisingLemmas
+pub mod SharedLemmas

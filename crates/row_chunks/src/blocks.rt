@@ -1,10 +1,11 @@
-ghost use Rattle.std.specs.Prelude.{◌≡◌, ◌≤◌, ◌*◌, ◌++◌, [], IfOk, drop, length, option_copied};
+ghost use Rattle.std.specs.Prelude.{◌≡◌, ◌≤◌, ◌*◌, ◌++◌, [], IfOk, drop, length, option_copied, true};
 ghost use Rattle.std.specs.List.{AllByRecursion, flat_map};
 ghost use Rattle.alto_rows.specs.Changes.{AreOrdered, changed};
 ghost use Rattle.alto_rows.specs.Rows.{Rows, AreSorted, IsRunOf};
 ghost use Rattle.row_chunks.specs.Blocks.{AllBegin, AreCounted, BeginsAt, first_key, first_rows, joined};
 ghost use Rattle.row_chunks.specs.Cut.{rows_behind};
 ghost use Rattle.row_chunks.specs.Passed.{IsPassed};
+ghost use Rattle.row_chunks.specs.Shared.{cut_shares};
 
 use crate::block::Block;
 use crate::builder::changed_blocks;
@@ -12,6 +13,7 @@ use crate::changes::Change;
 use crate::copies::copy_of_key;
 use crate::cut::Cut;
 use crate::pieces::pieces;
+use crate::shared::Shared;
 use crate::slot::Slot;
 use alto_rows::{Key, Value};
 use std::alloc::{AllocError, Global};
@@ -183,13 +185,27 @@ fn count_at<B: Block>(slots: &[Slot<B>], at: usize, cut: &Cut) -> usize
     }
 }
 
-/// How many blocks begin before a cut. One binary search.
+/// How many blocks begin before a cut. One binary search, which doesn't compare what all first keys have in common with
+/// the cut.
 fn count_passed<B: Block>(slots: &[Slot<B>], cut: &Cut) -> usize
     requires begin { AllBegin slots.now }
     requires sorted { AreSorted (joined slots.now) }
     ensures { IsPassed cut.now slots.now result }
 {
-    slots.partition_point(|slot| !cut.keeps(slot.key()))
+    let shared = shared_by_slots(slots, cut);
+    slots.partition_point(|slot| !cut.keeps_in(slot.key(), shared))
+}
+
+/// What the first keys of all blocks have in common with the key of a cut. It looks at the first and the last.
+fn shared_by_slots<B: Block>(slots: &[Slot<B>], cut: &Cut) -> Shared
+    requires begin { AllBegin slots.now }
+    requires sorted { AreSorted (joined slots.now) }
+    ensures { AllByRecursion (λ slot. cut_shares cut.now result slot.first ≡ true) slots.now }
+{
+    match slots.len().checked_sub(1) {
+        Some(last) => cut.shared(slots[0].key(), slots[last].key()),
+        None => Shared::Nothing,
+    }
 }
 
 /// The first rows of a block that are behind a cut, none where it isn't there.

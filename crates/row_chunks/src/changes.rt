@@ -1,7 +1,9 @@
-ghost use Rattle.std.specs.Prelude.{◌≡◌, IfOk};
+ghost use Rattle.std.specs.Prelude.{◌≡◌, IfOk, IsTrue};
 ghost use Rattle.std.specs.BTreeMap.{Updates};
+ghost use Rattle.std.specs.Ordering.{is_lt};
 ghost use Rattle.alto_rows.specs.Changes.{AreOrdered, DoAs};
 ghost use Rattle.alto_rows.specs.Order.{key_cmp};
+ghost use Rattle.row_chunks.specs.Made.{changes_made};
 ghost use Rattle.row_chunks.specs.Split.{changes_before, changes_behind, later_changes, own_changes};
 
 use crate::block::Block;
@@ -15,12 +17,52 @@ use std::collections::BTreeMap;
 /// A key with the value that it then has, if any.
 pub(crate) type Change = (Key, Option<Value>);
 
-/// What the last write of each key gives it, in the order of the keys. w writes cost w log w.
+/// What the last write of each key gives it, in the order of the keys. One comparison a write where their keys rise, else
+/// w writes cost w log w.
 pub(crate) fn changes_of(alloc: Global, writes: &[Write]) -> Result<Vec<Change>, AllocError>
     ensures does { IfOk result (λ changes. DoAs writes.now changes.items) }
     ensures ordered { IfOk result (λ changes. AreOrdered changes.items) }
 {
+    if are_rising(writes) {
+        return made_of(alloc, writes);
+    }
     in_order(alloc, last_values(alloc, writes)?)
+}
+
+/// Whether the keys of writes rise. One comparison a write, up to the first that doesn't.
+fn are_rising(writes: &[Write]) -> bool
+    ensures { IsTrue result → AreOrdered (changes_made writes.now) }
+{
+    let Some((first, rest)) = writes.split_first() else {
+        return true;
+    };
+    let mut last = first;
+    for write in rest {
+        if !is_before(&last.key, &write.key) {
+            return false;
+        }
+        last = write;
+    }
+    true
+}
+
+/// Whether a key is before another.
+#[tactic(auto, using(alto_rows::proofs::OrderLemmas::derived_key_cmp))]
+fn is_before(key: &Key, other: &Key) -> bool
+    ensures { result ≡ is_lt (key_cmp key.now other.now) }
+{
+    key.cmp(other).is_lt()
+}
+
+/// The change that each write makes, in their order.
+fn made_of(alloc: Global, writes: &[Write]) -> Result<Vec<Change>, AllocError>
+    ensures { IfOk result (λ changes. changes.items ≡ changes_made writes.now) }
+{
+    let mut changes = Vec::with_capacity(alloc, writes.len())?;
+    for write in writes {
+        changes.push(copy_of_write(write)?)?;
+    }
+    Ok(changes)
 }
 
 /// The changes of a block, which are those before the first key of the next, and those of the blocks from there on.

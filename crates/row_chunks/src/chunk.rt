@@ -1,15 +1,17 @@
-ghost use Rattle.std.specs.Prelude.{◌≡◌, ◌≤◌, ◌++◌, [], IfOk, length, option_copied};
+ghost use Rattle.std.specs.Prelude.{◌≡◌, ◌≤◌, ◌++◌, [], IfOk, length, option_copied, true};
 ghost use Rattle.std.specs.List.{AllByRecursion, flat_map};
 ghost use Rattle.alto_rows.specs.Changes.{AreOrdered, changed};
 ghost use Rattle.alto_rows.specs.Rows.{Rows, AreSorted, IsRunOf};
 ghost use Rattle.row_chunks.specs.Blocks.{first_key};
 ghost use Rattle.row_chunks.specs.Cut.{rows_behind};
+ghost use Rattle.row_chunks.specs.Shared.{cut_shares};
 
 use crate::block::Block;
 use crate::changes::Change;
 use crate::cut::Cut;
 use crate::merge::with_changed;
 use crate::pieces::pieces;
+use crate::shared::Shared;
 use alto_rows::{Key, Value};
 use std::alloc::{AllocError, Global};
 use std::marker::Model;
@@ -82,11 +84,23 @@ impl Block for Chunk {
     }
 }
 
-/// The rows behind a cut. One binary search.
-pub(crate) fn tail_behind<'a>(rows: &'a [(Key, Value)], cut: &Cut) -> &'a [(Key, Value)]
+/// The rows behind a cut. One binary search, which doesn't compare what all rows have in common with the cut.
+fn tail_behind<'a>(rows: &'a [(Key, Value)], cut: &Cut) -> &'a [(Key, Value)]
     requires { AreSorted rows.now }
     ensures { result.now ≡ rows_behind cut.now rows.now }
 {
-    let at = rows.partition_point(|row| !cut.keeps(&row.0));
+    let shared = shared_by_rows(rows, cut);
+    let at = rows.partition_point(|row| !cut.keeps_in(&row.0, shared));
     &rows[at..]
+}
+
+/// What all rows have in common with the key of a cut. It looks at the first and the last.
+fn shared_by_rows(rows: &[(Key, Value)], cut: &Cut) -> Shared
+    requires { AreSorted rows.now }
+    ensures { AllByRecursion (λ row. cut_shares cut.now result row.0 ≡ true) rows.now }
+{
+    match rows.len().checked_sub(1) {
+        Some(last) => cut.shared(&rows[0].0, &rows[last].0),
+        None => Shared::Nothing,
+    }
 }

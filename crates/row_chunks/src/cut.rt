@@ -1,6 +1,8 @@
-ghost use Rattle.std.specs.Prelude.{◌≡◌};
+ghost use Rattle.std.specs.Prelude.{◌≡◌, true};
 ghost use Rattle.row_chunks.specs.Cut.{keeps};
+ghost use Rattle.row_chunks.specs.Shared.{cut_shares, keeps_in};
 
+use crate::shared::{Shared, order_of_rest, shared_by};
 use alto_rows::{Key, Span};
 
 /// A place between keys, which cuts rows in two.
@@ -27,6 +29,28 @@ impl Cut<'_> {
             Cut::Behind(low) => (*low).cmp(key).is_lt(),
             Cut::BeforeSpan(span) => !span.cmp(key).is_gt(),
             Cut::BehindSpan(span) => span.cmp(key).is_lt(),
+        }
+    }
+
+    /// The same of a key that has so much in common with that of the cut, which isn't compared.
+    pub(crate) fn keeps_in(&self, key: &Key, shared: Shared) -> bool
+        ensures { result ≡ keeps_in self.now shared key.now }
+    {
+        match self {
+            Cut::Before(low) => !order_of_rest(*low, key, shared).is_gt(),
+            Cut::Behind(low) => order_of_rest(*low, key, shared).is_lt(),
+            Cut::BeforeSpan(_) | Cut::BehindSpan(_) => self.keeps(key),
+        }
+    }
+
+    /// What two keys have in common with that of the cut: nothing that is known, where it is of a span.
+    pub(crate) fn shared(&self, first: &Key, last: &Key) -> Shared
+        ensures first { cut_shares self.now result first.now ≡ true }
+        ensures last { cut_shares self.now result last.now ≡ true }
+    {
+        match self {
+            Cut::Before(low) | Cut::Behind(low) => shared_by(*low, first, last),
+            Cut::BeforeSpan(_) | Cut::BehindSpan(_) => Shared::Nothing,
         }
     }
 }

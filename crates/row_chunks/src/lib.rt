@@ -22,6 +22,7 @@ mod copies;
 mod cut;
 mod merge;
 mod pieces;
+mod shared;
 mod slot;
 mod store;
 

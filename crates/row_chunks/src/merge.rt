@@ -1,16 +1,17 @@
-ghost use Rattle.std.specs.Prelude.{◌≡◌, ◌++◌, IfOk};
+ghost use Rattle.std.specs.Prelude.{◌≡◌, ◌++◌, IfOk, length};
+ghost use Rattle.std.specs.List.Sorted.{IsSearchInRange};
 ghost use Rattle.alto_rows.specs.Changes.{AreOrdered, changed, own_row};
-ghost use Rattle.alto_rows.specs.Place.{rows_before};
-ghost use Rattle.alto_rows.specs.Rows.{AreSorted};
+ghost use Rattle.alto_rows.specs.Place.{place_of, rows_before};
+ghost use Rattle.alto_rows.specs.Rows.{AreSorted, rows_past};
 
 use crate::changes::Change;
-use crate::chunk::tail_behind;
 use crate::copies::{copy_of_key, copy_of_row, copy_of_value};
-use crate::cut::Cut;
 use alto_rows::{Key, Value};
 use std::alloc::AllocError;
+use std::cmp::Ordering;
 
-/// Rows with others behind them, those of a chunk after changes. One pass over both, and two searches for each change.
+/// Rows with others behind them, those of a chunk after changes. One pass over both, and for each change a comparison or,
+/// where rows stand before its key, one search.
 pub(crate) fn with_changed(
     done: Vec<(Key, Value)>,
     rows: &[(Key, Value)],
@@ -24,21 +25,40 @@ pub(crate) fn with_changed(
     all.reserve(rows.len())?;
     let mut rest = rows;
     for change in changes {
-        let past = tail_behind(rest, &Cut::Behind(&change.0));
-        all = with_copies(all, head_before(rest, &change.0))?;
+        let (head, past) = split_round(rest, &change.0);
+        all = with_copies(all, head)?;
         all = with_own(all, change)?;
         rest = past;
     }
     with_copies(all, rest)
 }
 
-/// The rows before a key. One binary search.
-fn head_before<'a>(rows: &'a [(Key, Value)], key: &Key) -> &'a [(Key, Value)]
+/// The rows before a key, and those behind it.
+fn split_round<'a>(rows: &'a [(Key, Value)], key: &Key) -> (&'a [(Key, Value)], &'a [(Key, Value)])
     requires { AreSorted rows.now }
-    ensures { result.now ≡ rows_before rows.now key.now }
+    ensures before { result.0.now ≡ rows_before rows.now key.now }
+    ensures past { result.1.now ≡ rows_past rows.now key.now }
 {
-    let tail = tail_behind(rows, &Cut::Before(key));
-    &rows[..rows.len() - tail.len()]
+    match place(rows, key) {
+        Ok(at) => (&rows[..at], &rows[at + 1..]),
+        Err(at) => (&rows[..at], &rows[at..]),
+    }
+}
+
+/// The place of a key's row, or where it would go. One comparison where that is the first place, else a binary search.
+fn place(rows: &[(Key, Value)], key: &Key) -> Result<usize, usize>
+    requires { AreSorted rows.now }
+    ensures place { result ≡ place_of rows.now key.now }
+    ensures within { IsSearchInRange result (length rows.now) }
+{
+    let Some(first) = rows.first() else {
+        return Err(0);
+    };
+    match key.cmp(&first.0) {
+        Ordering::Less => Err(0),
+        Ordering::Equal => Ok(0),
+        Ordering::Greater => rows.binary_search_by(|row| row.0.cmp(key)),
+    }
 }
 
 /// Rows with the row of a change behind them, if it has a value.

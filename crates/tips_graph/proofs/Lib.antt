@@ -7,3 +7,4 @@ pub mod LongestLemmas
 pub mod StepLemmas
 pub mod PushLemmas
 pub mod GraphLaws
+pub mod RisingLemmas

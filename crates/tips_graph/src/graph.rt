@@ -64,9 +64,9 @@ impl<R: RowStore> Graph<R> {
     /// The graph with one number more: the rows at it, and the keys that were written for it, in any order. It shares
     /// the rows and all that it keeps of this graph.
     ///
-    /// Costs n log n comparisons of the n keys, which are copied; a comparison and a copy for each key of the longer
-    /// edges that end at the number; and one pointer for each kept number. A key of a push is in five lists at most,
-    /// one for each stride.
+    /// Costs n comparisons of the n keys where they rise, else n log n, and their copies; a comparison and a copy for
+    /// each key of the longer edges that end at the number; and one pointer for each kept number. A key of a push is in
+    /// five lists at most, one for each stride.
     pub fn push(&self, alloc: Global, rows: &Arc<R>, keys: &[Key]) -> Result<Graph<R>, AllocError>
         requires { self.now.last < 2 ^ 63 - 1 }
         ensures { IfOk result (λ graph. graph

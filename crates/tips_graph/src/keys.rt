@@ -1,22 +1,51 @@
 //! Sets of keys.
-ghost use Rattle.std.specs.Prelude.{◌≡◌, ◌++◌, IfOk};
+ghost use Rattle.std.specs.Prelude.{◌≡◌, ◌≤◌, ◌++◌, false, IfOk, IsTrue, length};
 ghost use Rattle.alto_rows.specs.Order.{key_cmp};
 ghost use Rattle.tips_graph.specs.Keys.{key_set};
 
 use alto_rows::Key;
 use std::alloc::{AllocError, Global};
 use std::cmp::Ordering;
-use std::collections::BTreeSet;
 
-/// The distinct keys, in their order. n log n comparisons.
+/// The distinct keys, in their order. One comparison a key where they rise, else n log n comparisons: both halves are
+/// made so, and merged.
 pub(crate) fn distinct_keys(alloc: Global, keys: &[Key]) -> Result<Vec<Key>, AllocError>
     ensures { IfOk result (λ distinct. distinct.items ≡ key_set keys.now) }
 {
-    let mut set = BTreeSet::new(alloc);
-    for key in keys {
-        set.insert(copy_of_key(key)?)?;
+    if are_rising(keys) {
+        return copies_of(alloc, keys);
     }
-    set.into_iter().collect(alloc)
+    let (front, back) = keys.split_at(keys.len() / 2);
+    let older = distinct_keys(alloc, front)?;
+    let newer = distinct_keys(alloc, back)?;
+    merged(alloc, &older, &newer)
+}
+
+/// Whether the keys rise. One comparison a key, up to the first that isn't after the one before it.
+fn are_rising(keys: &[Key]) -> bool
+    ensures set { IsTrue result → key_set keys.now ≡ keys.now }
+    ensures many { result ≡ false → 2 ≤ length keys.now }
+{
+    let Some((first, rest)) = keys.split_first() else {
+        return true;
+    };
+    let mut last = first;
+    for key in rest {
+        if !order(last, key).is_lt() {
+            return false;
+        }
+        last = key;
+    }
+    true
+}
+
+/// Copies of the keys.
+fn copies_of(alloc: Global, keys: &[Key]) -> Result<Vec<Key>, AllocError>
+    ensures { IfOk result (λ copies. copies.items ≡ keys.now) }
+{
+    let mut copies = Vec::with_capacity(alloc, keys.len())?;
+    append_copies(&mut copies, keys)?;
+    Ok(copies)
 }
 
 /// The distinct keys of two sets in order, in their order. One comparison a key.

@@ -1,0 +1,7 @@
+-- No rows are sorted.
+use Rattle.std.specs.List.Sorted.{IsStrictlySortedBy}
+use Rattle.alto_rows.proofs.plain.PlainRows.new.Goals as goal
+
+pub invariant_of-result : goal.invariant_of-result
+unfolding IsStrictlySortedBy
+invariant_of-result c = rw c.new.ensures.items tt
