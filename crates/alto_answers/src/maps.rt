@@ -15,7 +15,6 @@ use alto_http::Verb;
 use alto_replies::{Reply, not_found, ok_reply, wrong_method};
 use alto_rows::{Resource, RowStore, find_resource};
 use alto_versions::Front;
-use edge_patch::document_text;
 use std::alloc::{AllocError, Global};
 
 /// What a request comes to whose path leads to `/maps/{resource}`.
@@ -48,18 +47,17 @@ fn map_reply<R: RowStore>(alloc: Global, front: &Front<R>, text: &[u8]) -> Resul
     }
 }
 
-/// The text of the document of a declared resource: a copy of the one that the version keeps, else it is made.
+/// The text of the document of a declared resource, which the version keeps.
 fn document_of<R: RowStore>(
     alloc: Global,
     front: &Front<R>,
     of: &Resource,
 ) -> Result<Vec<u8>, AllocError>
-    requires good { AreGood front.now.rows }
-    requires declared { is_declared front.now.rows of.now ≡ true }
+    requires { is_declared front.now.rows of.now ≡ true }
     ensures { IfOk result (λ bytes. bytes.items ≡ compact_text (document of.now front.now.rows)) }
 {
-    match front.text(of) {
-        Some(text) => text.to_vec(alloc),
-        None => document_text(alloc, of, &*front.rows),
+    match front.text(alloc, of)? {
+        Some(text) => Ok(text),
+        None => unreachable!(),
     }
 }

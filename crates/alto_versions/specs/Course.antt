@@ -1,4 +1,4 @@
--- A version in the making: all of it but the range tables.
+-- A version in the making: all of it but the range tables and the texts.
 use Rattle.std.specs.Prelude.{◌≡◌, ℕ, List}
 use Rattle.alto_rows.specs.declared.resource.Resource.{Resource}
 use Rattle.alto_rows.specs.Rows.{Rows}

@@ -84,7 +84,8 @@ impl<R: RowStore> Course<R> {
         })
     }
 
-    /// The version that it has come to: each declared network gets its range table and the text of its map.
+    /// The version that it has come to: each declared network gets its range table, and each declared resource the text
+    /// of its document.
     pub fn into_front(self, alloc: Global) -> Result<Front<R>, AllocError>
         requires good { AreGood self.rows }
         ensures { IfOk result (λ front. (book : Book) → Follows self book → StandsFor front book) }

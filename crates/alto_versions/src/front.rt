@@ -1,18 +1,18 @@
-ghost use Rattle.std.specs.Prelude.{◌≡◌, ◌<◌, ◌^◌, IfOk, IfSome, option_map};
-ghost use Rattle.serde_json.specs.Written.{compact_text};
+ghost use Rattle.std.specs.Prelude.{◌≡◌, ◌<◌, ◌^◌, IfOk, option_map, vec_items};
 ghost use Rattle.alto_rows.specs.Good.{AreGood};
 ghost use Rattle.alto_rows.specs.Rows.{after};
-ghost use Rattle.edge_patch.specs.Documents.{document};
 ghost use Rattle.alto_book.specs.Book.{Book};
 ghost use Rattle.alto_book.specs.Legal.{IsLegal};
 ghost use Rattle.alto_book.specs.Acceptance.{with_batch};
 ghost use Rattle.alto_versions.specs.Front.{StandsFor, graph_in, table_in};
+ghost use Rattle.alto_versions.specs.Texts.{declared_text};
 
 use crate::graphs::{graphs_after, is_same};
 use crate::tables::{table_of, tables_after};
-use crate::texts::{Text, text_of, texts_after};
+use crate::texts::{text_of, texts_after};
 use alto_names::NetName;
 use alto_rows::{Batch, Resource, RowStore};
+use doc_pieces::Pieces;
 use pid_prefix::RangeTable;
 use std::alloc::{AllocError, Global};
 use std::marker::Model;
@@ -20,7 +20,7 @@ use std::sync::Arc;
 use tips_graph::Graph;
 
 /// A version: the rows after some number of batches, the updates graphs that they have led to, the range tables of their
-/// prefixes, and texts that are asked for often. It never changes, and readers share it. A contract sees the number, the
+/// prefixes, and the texts of their documents. It never changes, and readers share it. A contract sees the number, the
 /// rows, the graphs, and the prefixes of the tables. The rows are good, and the texts are those of the rows.
 #[derive(Drop)]
 pub struct Front<R: RowStore> {
@@ -32,8 +32,8 @@ pub struct Front<R: RowStore> {
     pub graphs: Vec<(Resource, Arc<Graph<R>>)>,
     /// The range table of each declared network, in the order of their names.
     pub tables: Vec<(NetName, Arc<RangeTable>)>,
-    /// The text of each declared network's map, in the order of their names.
-    pub(crate) texts: Vec<(NetName, Arc<Text>)>,
+    /// The text of the document of each declared resource, in pieces, in the order of resources.
+    pub(crate) texts: Vec<(Resource, Arc<Pieces>)>,
 }
 
 impl<R: RowStore> Model for Front<R> {
@@ -75,23 +75,23 @@ impl<R: RowStore> Front<R> {
         Some(table)
     }
 
-    /// The text of a resource's document, where it is kept, as that of each declared network's map is. Linear in the
-    /// number of networks.
-    pub fn text(&self, of: &Resource) -> Option<&[u8]>
-        ensures { IfSome result (λ text. text.now ≡ compact_text (document of.now self.now.rows)) }
+    /// The text of a resource's document, where the resource is declared. Costs one pass over the declared resources, and
+    /// the copying of the text.
+    pub fn text(&self, alloc: Global, of: &Resource) -> Result<Option<Vec<u8>>, AllocError>
+        ensures { IfOk result (λ text. option_map vec_items text ≡ declared_text self.now.rows of.now) }
     {
-        let Resource::Net(net) = of else {
-            return None;
-        };
-        let text = text_of(&self.texts, net)?;
-        Some(text.as_bytes())
+        match text_of(&self.texts, of) {
+            Some(pieces) => Ok(Some(pieces.text(alloc)?)),
+            None => Ok(None),
+        }
     }
 
     /// The version after one batch more. It shares what the batch left.
     ///
     /// Costs what the store's `with` costs, two searches for each declared resource, a look at each write for each of
-    /// those that the batch gave a number and twice for each network, a range table for each network whose prefixes it
-    /// wrote, and the writing of each network map that it changed.
+    /// those that the batch gave a number, twice for each declared resource and once for each network, a range table for
+    /// each network whose prefixes it wrote, and for each map that it changed a walk over the groups and the writing of
+    /// those that it touched.
     pub fn with(&self, alloc: Global, batch: &Batch) -> Result<Front<R>, AllocError>
         requires room { self.now.n < 2 ^ 63 }
         requires good { AreGood (after self.now.rows batch.now.writes) }

@@ -164,7 +164,11 @@ fn window<R: RowStore>(rows: &R) -> u32
 }
 
 /// The keys that touch a resource, of these writes.
-fn touching(alloc: Global, of: &Resource, writes: &[Write]) -> Result<Vec<Key>, AllocError>
+pub(crate) fn touching(
+    alloc: Global,
+    of: &Resource,
+    writes: &[Write],
+) -> Result<Vec<Key>, AllocError>
     ensures { IfOk result (λ keys. keys.items ≡ spec.touching of.now writes.now) }
 {
     let mut keys = Vec::new(alloc);

@@ -1,5 +1,5 @@
-//! Versions of the book, as readers share them: the rows after some number of batches, the updates graph of each
-//! declared resource, and the range table of each declared network with the text of its map.
+//! Versions of the book, as readers share them: the rows after some number of batches, the updates graph and the text of
+//! each declared resource, and the range table of each declared network.
 //!
 //! ```text
 //! Front { n, rows, graphs, tables, texts } ── with(batch) ──▶ the next one: what the batch left is shared

@@ -1,141 +1,179 @@
-//! The texts of the network maps of a version, made from those of the version before. All whose map a batch left are
-//! shared.
-ghost use Rattle.std.specs.Prelude.{◌≡◌, IfOk, option_map};
+//! The texts of the documents of a version, in pieces, made from those of the version before. All pieces that a batch
+//! left are shared.
+ghost use Rattle.std.specs.Prelude.{◌≡◌, true, IfOk, IfSome, All, option_map};
 ghost use Rattle.std.specs.Arc.{arc_value};
 ghost use Rattle.alto_rows.specs.Good.{AreGood};
 ghost use Rattle.alto_rows.specs.Rows.{Rows};
 ghost use Rattle.alto_rows.specs.Rows as spec;
+ghost use Rattle.alto_rows.specs.Versions.{is_declared};
 ghost use Rattle.alto_versions.specs.Graphs.{entries};
 ghost use Rattle.alto_versions.specs.Texts as made;
-ghost use Rattle.alto_versions.specs.Texts.{AreTextsOf, map_text, text_in};
+ghost use Rattle.alto_versions.specs.Texts.{AreTextsOf, IsTextOf, map_pieces, text_in};
+ghost use Rattle.net_docs.specs.Differ.{DifferBy};
 
-use crate::resources::nets_of;
-use alto_maps::write_document;
-use alto_names::NetName;
-use alto_rows::{Key, Resource, RowStore, Write, touches};
-use net_docs::NetMap;
+use crate::graphs::{is_same, touching};
+use crate::resources::resources_of;
+use alto_rows::{Key, Resource, RowStore, Write};
+use cost_docs::{CostMap, cost_places};
+use doc_pieces::Pieces;
+use net_docs::{NetMap, net_places};
+use prop_docs::{PropMap, prop_places};
 use std::alloc::{AllocError, Global};
-use std::marker::Model;
 use std::sync::Arc;
 
-/// The text of a map. A contract sees its bytes.
-#[derive(Drop)]
-pub struct Text {
-    bytes: Vec<u8>,
-}
-
-impl Model for Text {
-    ghost use Rattle.std.specs.Prelude.{ℕ, List};
-
-    ghost Value = { List ℕ };
-
-    ghost view = { λ text. text.bytes.items };
-}
-
-impl Text {
-    /// The bytes. Takes no memory.
-    pub(crate) fn as_bytes(&self) -> &[u8]
-        ensures { result.now ≡ self.now }
-    {
-        &self.bytes
-    }
-}
-
-/// The texts of the network maps after a batch with these writes, which led to these rows: one for each declared
-/// network. Those of maps that the batch left are shared.
+/// The texts of the documents after a batch with these writes, which led to these rows: one for each declared resource.
+/// The groups that the batch left are shared.
 ///
-/// Costs a walk over the rows of the networks, a look at each write for each of them, and the writing of each map that
-/// the batch wrote to, or that had no text.
+/// Costs a walk over the rows of the networks and metrics, a look at each text and at each write for each resource, and
+/// for each that the batch touched one walk over its groups and the writing of those that the batch touched.
 pub(crate) fn texts_after<R: RowStore>(
     alloc: Global,
-    texts: &[(NetName, Arc<Text>)],
+    texts: &[(Resource, Arc<Pieces>)],
     rows: &R,
     writes: &[Write],
-) -> Result<Vec<(NetName, Arc<Text>)>, AllocError>
+) -> Result<Vec<(Resource, Arc<Pieces>)>, AllocError>
     requires { AreGood (R.rows rows.now) }
     ensures { IfOk result (λ after. (before : Rows) → R.rows rows.now ≡ spec.after before writes.now
         → AreTextsOf before (entries texts.now) → AreTextsOf (R.rows rows.now) (entries after.items)) }
 {
     let mut after = Vec::new(alloc);
-    for net in nets_of(alloc, rows)? {
-        let text = text_after(alloc, text_of(texts, &net), &net, rows, writes)?;
-        after.push((net, text))?;
+    for of in resources_of(alloc, rows)? {
+        let text = text_after(alloc, text_of(texts, &of), &of, rows, writes)?;
+        after.push((of, text))?;
     }
     Ok(after)
 }
 
-/// The texts of the network maps of the rows: one for each declared network.
+/// The texts of the documents of the rows: one for each declared resource.
 ///
-/// Costs a walk over the rows of the networks, and the writing of each map.
+/// Costs a walk over the rows of the networks and metrics, and the writing of each map.
 pub(crate) fn texts_of<R: RowStore>(
     alloc: Global,
     rows: &R,
-) -> Result<Vec<(NetName, Arc<Text>)>, AllocError>
+) -> Result<Vec<(Resource, Arc<Pieces>)>, AllocError>
     requires { AreGood (R.rows rows.now) }
     ensures { IfOk result (λ texts. AreTextsOf (R.rows rows.now) (entries texts.items)) }
 {
     let mut texts = Vec::new(alloc);
-    for net in nets_of(alloc, rows)? {
-        let text = written(alloc, rows, &net)?;
-        texts.push((net, text))?;
+    for of in resources_of(alloc, rows)? {
+        let text = written(alloc, rows, &of)?;
+        texts.push((of, text))?;
     }
     Ok(texts)
 }
 
-/// The text of a network's map among these. Linear in their number.
-pub(crate) fn text_of<'a>(texts: &'a [(NetName, Arc<Text>)], net: &NetName) -> Option<&'a Arc<Text>>
-    ensures { option_map (λ text. arc_value text.now) result ≡ text_in (entries texts.now) net.now }
+/// The text of a resource's document among these. Linear in their number.
+pub(crate) fn text_of<'a>(
+    texts: &'a [(Resource, Arc<Pieces>)],
+    of: &Resource,
+) -> Option<&'a Arc<Pieces>>
+    ensures { option_map (λ text. arc_value text.now) result ≡ text_in (entries texts.now) of.now }
 {
-    for (name, text) in texts {
-        if net == name {
+    for (resource, text) in texts {
+        if is_same(of, resource) {
             return Some(text);
         }
     }
     None
 }
 
-/// The text of a network's map after a batch with these writes, which led to these rows: the same where they left the
-/// map.
+/// The text of a declared resource's document after a batch with these writes, which led to these rows: the same where
+/// they left the map.
 fn text_after<R: RowStore>(
     alloc: Global,
-    text: Option<&Arc<Text>>,
-    net: &NetName,
+    text: Option<&Arc<Pieces>>,
+    of: &Resource,
     rows: &R,
     writes: &[Write],
-) -> Result<Arc<Text>, AllocError>
-    requires { AreGood (R.rows rows.now) }
-    ensures { IfOk result (λ after. arc_value after
-        ≡ made.text_after (option_map (λ text. arc_value text.now) text.entry) net.now (R.rows rows.now) writes.now) }
+) -> Result<Arc<Pieces>, AllocError>
+    requires good { AreGood (R.rows rows.now) }
+    requires declared { is_declared (R.rows rows.now) of.now ≡ true }
+    ensures { IfOk result (λ after. (before : Rows) → R.rows rows.now ≡ spec.after before writes.now
+        → IfSome (option_map (λ text. arc_value text.now) text.entry) (IsTextOf before of.now)
+        → arc_value after ≡ map_pieces (R.rows rows.now) of.now) }
 {
     let Some(text) = text else {
-        return written(alloc, rows, net);
+        return written(alloc, rows, of);
     };
-    if is_written(&Resource::Net(net.clone()?), writes) {
-        return written(alloc, rows, net);
+    if writes_epoch(writes) {
+        return written(alloc, rows, of);
     }
-    Arc::try_clone(text)
+    text_at(alloc, text, of, rows, &touching(alloc, of, writes)?)
 }
 
-/// The text of the map that a network has in these rows.
-fn written<R: RowStore>(alloc: Global, rows: &R, net: &NetName) -> Result<Arc<Text>, AllocError>
+/// The text of a resource's document at rows that differ by keys alone from those that this is the text at: the same
+/// where there is no key.
+fn text_at<R: RowStore>(
+    alloc: Global,
+    text: &Arc<Pieces>,
+    of: &Resource,
+    rows: &R,
+    keys: &[Key],
+) -> Result<Arc<Pieces>, AllocError>
     requires { AreGood (R.rows rows.now) }
-    ensures { IfOk result (λ text. arc_value text ≡ map_text (R.rows rows.now) net.now) }
+    ensures { IfOk result (λ after. (before : Rows) → DifferBy keys.now before (R.rows rows.now) of.now
+        → arc_value text.now ≡ map_pieces before of.now → arc_value after ≡ map_pieces (R.rows rows.now) of.now) }
 {
-    let bytes = write_document(alloc, &NetMap::new(rows, net))?;
-    Ok(Arc::new(alloc, Text { bytes })?)
+    if keys.is_empty() {
+        return Arc::try_clone(text);
+    }
+    Ok(Arc::new(alloc, renewed(alloc, text, of, rows, keys)?)?)
 }
 
-/// Whether one of these writes is of a key that a resource's document is read from.
-fn is_written(of: &Resource, writes: &[Write]) -> bool
-    ensures { result ≡ made.is_written of.now writes.now }
+/// The pieces of a resource's map at rows that differ by these keys alone from those that these are the pieces at.
+fn renewed<R: RowStore>(
+    alloc: Global,
+    text: &Pieces,
+    of: &Resource,
+    rows: &R,
+    keys: &[Key],
+) -> Result<Pieces, AllocError>
+    requires { AreGood (R.rows rows.now) }
+    ensures { IfOk result (λ after. (before : Rows) → DifferBy keys.now before (R.rows rows.now) of.now
+        → text.now ≡ map_pieces before of.now → after ≡ map_pieces (R.rows rows.now) of.now) }
 {
-    writes.iter().any(|write| is_read(of, &write.key))
+    match of {
+        Resource::Net(net) => {
+            let places = net_places(alloc, net, keys)?;
+            text.renewed(alloc, &NetMap::new(rows, net), &places)
+        }
+        Resource::Cost(net, metric) => {
+            let places = cost_places(alloc, net, metric, keys)?;
+            text.renewed(alloc, &CostMap::new(rows, net, metric), &places)
+        }
+        Resource::Prop(net) => {
+            let places = prop_places(alloc, net, keys)?;
+            text.renewed(alloc, &PropMap::new(rows, net), &places)
+        }
+    }
 }
 
-fn is_read(of: &Resource, key: &Key) -> bool
-    ensures { result ≡ made.is_read of.now key.now }
+/// The text of a resource's document in these rows.
+fn written<R: RowStore>(alloc: Global, rows: &R, of: &Resource) -> Result<Arc<Pieces>, AllocError>
+    requires { AreGood (R.rows rows.now) }
+    ensures { IfOk result (λ text. arc_value text ≡ map_pieces (R.rows rows.now) of.now) }
 {
-    is_epoch(key) || touches(of, key)
+    Ok(Arc::new(alloc, pieces(alloc, rows, of)?)?)
+}
+
+/// The pieces of a resource's map in these rows.
+#[tactic(auto, unfolding(crate::specs::Texts::map_pieces))]
+fn pieces<R: RowStore>(alloc: Global, rows: &R, of: &Resource) -> Result<Pieces, AllocError>
+    requires { AreGood (R.rows rows.now) }
+    ensures { IfOk result (λ pieces. pieces ≡ map_pieces (R.rows rows.now) of.now) }
+{
+    match of {
+        Resource::Net(net) => Pieces::of(alloc, &NetMap::new(rows, net)),
+        Resource::Cost(net, metric) => Pieces::of(alloc, &CostMap::new(rows, net, metric)),
+        Resource::Prop(net) => Pieces::of(alloc, &PropMap::new(rows, net)),
+    }
+}
+
+/// Whether one of these writes is of the epoch.
+fn writes_epoch(writes: &[Write]) -> bool
+    ensures { result ≡ made.writes_epoch writes.now }
+{
+    writes.iter().any(|write| is_epoch(&write.key))
 }
 
 fn is_epoch(key: &Key) -> bool

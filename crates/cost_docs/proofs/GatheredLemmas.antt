@@ -23,7 +23,7 @@ use Rattle.alto_maps.proofs.SetLemmas.{any-set_of, one}
 use Rattle.cost_docs.specs.declared.costs.Cost.{Cost}
 use Rattle.cost_docs.specs.CostMap.{cost_face, cost_of, destinations_of, number_data, sources_of}
 use Rattle.cost_docs.specs.Costs.{costs_within}
-use Rattle.cost_docs.specs.Writing.{groups_of}
+use Rattle.cost_docs.specs.Writing.{groups_of, members_from}
 use Rattle.cost_docs.proofs.CostLemmas.{all_taken, all_told, costs_from, costs_told, sources_given}
 use Rattle.cost_docs.proofs.OrderLemmas.{NoneBefore, StandBySource, destinations_rise, stand_by_source}
 
@@ -214,14 +214,23 @@ found (c ∷ costs) stand q =
 
 -- ---- the groups of the map
 
--- the group of a source has its costs as they stand
+-- the members of a source have its costs as they stand
+source_listed : (net metric : Name) (rows : Rows) (src : Name) → AreGood rows
+    → members_from rows net metric src ≡ listed (own src (costs_within rows (span.CostsIn net metric)))
+source_listed net metric rows src good =
+    named-rising (λ dst. number_data (cost_of rows net metric src dst)) (destinations_of rows net metric src) (destinations_rise net metric src rows good.sorted)
+    ∙ (ap members_in_order (costs_told number_data net metric src rows rows (all_told rows good.sorted) (all_taken rows rows good (all_told rows good.sorted)))
+    ∙ ap listed (sym (costs_from net metric src rows)))
+
+-- and so has its group
 group_listed : (net metric : Name) (rows : Rows) (src : Name) → AreGood rows
     → group_object (cost_face net metric rows) src ≡ object (listed (own src (costs_within rows (span.CostsIn net metric))))
-group_listed net metric rows src good =
-    ap object
-    (named-rising (λ dst. number_data (cost_of rows net metric src dst)) (destinations_of rows net metric src) (destinations_rise net metric src rows good.sorted)
-    ∙ (ap members_in_order (costs_told number_data net metric src rows rows (all_told rows good.sorted) (all_taken rows rows good (all_told rows good.sorted)))
-    ∙ ap listed (sym (costs_from net metric src rows))))
+group_listed net metric rows src good = ap object (source_listed net metric rows src good)
+
+-- which are those of its own span
+pub members_listed : (net metric : Name) (rows : Rows) (src : Name) → AreGood rows
+    → members_from rows net metric src ≡ listed (costs_within rows (span.CostsFrom net metric src))
+members_listed net metric rows src good = source_listed net metric rows src good ∙ ap listed (costs_from net metric src rows)
 
 -- the groups of the map are the costs of its metric, gathered by their source
 pub groups_gathered : (net metric : Name) (rows : Rows) → AreGood rows

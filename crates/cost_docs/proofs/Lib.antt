@@ -3,6 +3,7 @@ pub mod PlaceLemmas
 pub mod CostLemmas
 pub mod OrderLemmas
 pub mod GatheredLemmas
+pub mod NameLemmas
 pub mod WritingLemmas
 pub mod RankLemmas
 pub mod SourceLemmas

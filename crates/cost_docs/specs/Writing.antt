@@ -8,7 +8,7 @@ use Rattle.alto_rows.specs.Order.{same_name}
 use Rattle.alto_rows.specs.Rows.{Rows}
 use Rattle.alto_maps.specs.Shape.{Name, group_object}
 use Rattle.cost_docs.specs.declared.costs.Cost.{Cost}
-use Rattle.cost_docs.specs.CostMap.{cost_face, sources_of}
+use Rattle.cost_docs.specs.CostMap.{cost_face, cost_of, destinations_of, number_data, sources_of}
 
 -- the groups of a cost map, each with its name
 abbrev pub groups_of : Rows → Name → Name → Members
@@ -40,6 +40,25 @@ cost_tokens current (Some cost) =
 abbrev pub current_behind : Option Name → Option Cost → Option Name
 current_behind current None = current
 current_behind current (Some cost) = Some cost.source
+
+-- the name of the group that begins with a cost from this source
+abbrev pub name_turned : Option Name → Name → List Name
+name_turned current src = if is_current current src then [] else src ∷ []
+
+-- the name of the group that begins with a cost
+abbrev pub name_begun : Option Name → Option Cost → List Name
+name_begun current None = []
+name_begun current (Some cost) = name_turned current cost.source
+
+-- a cost as a member of its group
+abbrev pub member_tokens : Option Cost → List Token
+member_tokens None = []
+member_tokens (Some cost) = key cost.destination ∷ number (decimal cost.amount) ∷ []
+
+-- the members of the group of a source
+abbrev pub members_from : Rows → Name → Name → Name → Members
+members_from rows net metric src =
+    members_of (map (λ dst. (dst, number_data (cost_of rows net metric src dst))) (destinations_of rows net metric src))
 
 -- tokens are added
 pub record AddsTokens (tokens : List Token) (old new : Written) : Type 0 where

@@ -12,6 +12,7 @@ mod document;
 mod groups;
 mod laws;
 mod meta;
+mod names;
 mod places;
 mod ranks;
 mod source;

@@ -9,10 +9,12 @@ ghost use Rattle.cost_docs.specs.CostMap as spec;
 
 use crate::groups::{group, groups};
 use crate::meta::{meta, write_meta};
-use crate::writing::write_groups;
+use crate::names::group_names;
+use crate::writing::{write_group, write_groups};
 use alto_maps::{MapSource, Walked};
 use alto_names::{Metric, NameFault, NetName, PidName};
 use alto_rows::{Key, RowStore, Span, Value, rows_in};
+use doc_pieces::Grouped;
 use json::Writer;
 use json_tree::{Name, Tree};
 use net_docs::dependent_tags;
@@ -106,6 +108,19 @@ impl<'a, R: RowStore> Walked for CostMap<'a, R> {
 
     fn write_groups(&self, _alloc: Global, out: &mut Writer) -> Result<(), AllocError> {
         write_groups(self.rows, self.net, self.metric, out)
+    }
+}
+
+impl<'a, R: RowStore> Grouped for CostMap<'a, R> {
+    fn group_names(&self, alloc: Global) -> Result<Vec<Name>, AllocError> {
+        group_names(alloc, self.rows, self.net, self.metric)
+    }
+
+    fn write_group(&self, alloc: Global, name: &Name, out: &mut Writer) -> Result<(), AllocError> {
+        match read_pid(alloc, name)? {
+            Some(source) => write_group(self.rows, self.net, self.metric, &source, out),
+            None => unreachable!(),
+        }
     }
 }
 

@@ -2,13 +2,13 @@ ghost use Rattle.std.specs.Prelude.{◌≡◌, IfOk, option_map};
 ghost use Rattle.json_tree.specs.Tree.{data_of};
 ghost use Rattle.alto_rows.specs.Good.{AreGood};
 ghost use Rattle.alto_maps.specs.Shape.{group_object, section_object};
-ghost use Rattle.net_docs.specs.NetworkMap.{net_face};
+ghost use Rattle.net_docs.specs.NetworkMap.{net_face, pids_of};
 ghost use Rattle.net_docs.specs.Prefixes as spec;
 
 use crate::prefixes::{from_pid, group_of, leading_of, prefixes_of};
 use alto_names::{NetName, PidName};
 use alto_rows::{Key, RowStore, Span, Value, rows_in};
-use json_tree::{Members, Tree};
+use json_tree::{Members, Name, Tree};
 use std::alloc::{AllocError, Global};
 
 /// The groups of a network map: each PID of the network with its prefixes. One walk over the rows of these PIDs, and one over
@@ -32,6 +32,23 @@ pub(crate) fn groups<R: RowStore>(
         }
     }
     Ok(groups.into_tree())
+}
+
+/// The names of the groups: the PIDs of the network, in byte order. One walk over their rows.
+pub(crate) fn group_names<R: RowStore>(
+    alloc: Global,
+    rows: &R,
+    net: &NetName,
+) -> Result<Vec<Name>, AllocError>
+    ensures { IfOk result (λ names. names.items ≡ pids_of (R.rows rows.now) net.now) }
+{
+    let mut names = Vec::new(alloc);
+    for row in rows_in(rows, Span::Pids(net.clone()?)) {
+        if let Some(pid) = pid_in(row) {
+            names.push(Name::from_str(alloc, pid.as_str())?)?;
+        }
+    }
+    Ok(names)
 }
 
 /// The group of a PID. One search and one walk over its prefixes.

@@ -7,13 +7,14 @@ ghost use Rattle.net_docs.specs.NetworkMap.{net_face};
 ghost use Rattle.net_docs.specs.Prefixes as spec;
 
 use crate::document::{meta_of, version_tag};
-use crate::pids::{group, groups};
+use crate::pids::{group, group_names, groups};
 use crate::prefixes::{prefixes_of, texts_in_family};
 use crate::version::tag;
-use crate::writing::{write_groups, write_meta};
+use crate::writing::{write_group, write_groups, write_meta};
 use alto_maps::{MapSource, Walked};
 use alto_names::{NameFault, NetName, PidName};
 use alto_rows::{Key, Resource, RowStore};
+use doc_pieces::Grouped;
 use json::Writer;
 use json_tree::{Name, Tree};
 use std::alloc::{AllocError, Global};
@@ -106,6 +107,19 @@ impl<'a, R: RowStore> Walked for NetMap<'a, R> {
 
     fn write_groups(&self, alloc: Global, out: &mut Writer) -> Result<(), AllocError> {
         write_groups(alloc, self.rows, self.net, out)
+    }
+}
+
+impl<'a, R: RowStore> Grouped for NetMap<'a, R> {
+    fn group_names(&self, alloc: Global) -> Result<Vec<Name>, AllocError> {
+        group_names(alloc, self.rows, self.net)
+    }
+
+    fn write_group(&self, alloc: Global, name: &Name, out: &mut Writer) -> Result<(), AllocError> {
+        match pid_standing(alloc, self.rows, self.net, name)? {
+            Some(pid) => write_group(alloc, self.rows, self.net, &pid, out),
+            None => unreachable!(),
+        }
     }
 }
 

@@ -29,6 +29,17 @@ pub(crate) fn entities_of<R: RowStore>(
     Ok(texts)
 }
 
+/// The same as a list: the names of the groups.
+pub(crate) fn group_names<R: RowStore>(
+    alloc: Global,
+    rows: &R,
+    net: &NetName,
+) -> Result<Vec<Name>, AllocError>
+    ensures { IfOk result (λ names. names.items ≡ spec.entities_of (R.rows rows.now) net.now) }
+{
+    entities_of(alloc, rows, net)?.into_iter().collect(alloc)
+}
+
 /// The text of the entity that a row gives a property.
 fn entity_in(alloc: Global, net: &NetName, row: &(Key, Value)) -> Result<Option<Name>, AllocError>
     ensures { IfOk result (λ text. text ≡ spec.entity_in net.now row.now) }

@@ -9,12 +9,13 @@ ghost use Rattle.alto_rows.specs.Span.{count_in};
 ghost use Rattle.alto_rows.specs.declared.key.Key.TheVariants as key;
 ghost use Rattle.prop_docs.specs.PropertyMap.{prop_face, prop_meta, value_data};
 
-use crate::entities::{entities_of, entity_named};
+use crate::entities::{entities_of, entity_named, group_names};
 use crate::properties::{group, value_tree};
-use crate::writing::{write_groups, write_meta};
+use crate::writing::{write_group, write_groups, write_meta};
 use alto_maps::{MapSource, Walked};
 use alto_names::{NameFault, NetName, PropName};
 use alto_rows::{Entity, Key, RowStore, Span};
+use doc_pieces::Grouped;
 use json::Writer;
 use json_tree::{Members, Name, Tree};
 use net_docs::dependent_tags;
@@ -104,6 +105,16 @@ impl<'a, R: RowStore> Walked for PropMap<'a, R> {
 
     fn write_groups(&self, alloc: Global, out: &mut Writer) -> Result<(), AllocError> {
         write_groups(alloc, self.rows, self.net, out)
+    }
+}
+
+impl<'a, R: RowStore> Grouped for PropMap<'a, R> {
+    fn group_names(&self, alloc: Global) -> Result<Vec<Name>, AllocError> {
+        group_names(alloc, self.rows, self.net)
+    }
+
+    fn write_group(&self, alloc: Global, name: &Name, out: &mut Writer) -> Result<(), AllocError> {
+        write_group(alloc, self.rows, self.net, name, out)
     }
 }
 

@@ -64,8 +64,8 @@ fn write_each_group<R: RowStore>(
     Ok(())
 }
 
-/// Writes the group of a text with its name.
-fn write_group<R: RowStore>(
+/// Writes the group of a text with its name. One search and one walk over the rows of its properties.
+pub(crate) fn write_group<R: RowStore>(
     alloc: Global,
     rows: &R,
     net: &NetName,

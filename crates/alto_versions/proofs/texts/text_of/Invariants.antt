@@ -3,6 +3,6 @@ use Rattle.alto_versions.specs.Texts.{text_in}
 use Rattle.alto_versions.specs.Graphs.{entries}
 use Rattle.alto_versions.proofs.texts.text_of.Given as goal
 
--- the texts so far are of other networks
-abbrev pub invariant-loop-name : goal.invariant-loop-name
-invariant-loop-name l = text_in (entries l.texts) l.net ≡ text_in (entries (drop l.name-index l.texts)) l.net
+-- the texts so far are of other resources
+abbrev pub invariant-loop-resource : goal.invariant-loop-resource
+invariant-loop-resource l = text_in (entries l.texts) l.of ≡ text_in (entries (drop l.resource-index l.texts)) l.of

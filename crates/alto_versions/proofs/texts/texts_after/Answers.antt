@@ -1,9 +1,32 @@
-use Rattle.std.proofs.Common.{arith}
+use Rattle.std.proofs.Common.{◌≡◌, ◌∷◌, ◌∙◌, refl, ap, arith}
+use Rattle.std.proofs.lemmas.List.{map-append}
 use Rattle.alto_versions.specs.Graphs.{entries}
-use Rattle.alto_versions.proofs.TextLemmas.{texts_made}
+use Rattle.alto_versions.proofs.ResourceLemmas.{resources_declared}
+use Rattle.alto_versions.proofs.TextLemmas.{text_step, text_told, texts_made}
 use Rattle.alto_versions.proofs.texts.texts_after.Goals as goal
+
+pub loop-of-init : goal.loop-of-init
+loop-of-init g c =
+    let all = c.into_iter-of-iterator.ensures.into_iter_gives.0 ∙ c.in_ok-of-items.ensures in
+    record {
+      declared = rw all (resources_declared (g.R.RowStore.rows c.args.rows.now));
+      whole = λ before led had. rw (c.new-after.ensures.items, all) refl;
+    }
+
+pub loop-of-preserved : goal.loop-of-preserved
+loop-of-preserved g c =
+    let of = c.in-Some.of in
+    let front : c.loop-of.of-iterator.rest.items ≡ of ∷ c.next.new.self.rest.items = c.in-Some.ensures.steps.0 in
+    record {
+      declared = (rw front at c.loop-of.invariant.declared).1;
+      whole = λ before led had.
+          text_step _ (entries c.loop-of.after.items) _ c.loop-of.of-iterator.rest.items _ of _ front
+          (ap entries c.in_ok-push.ensures.items ∙ map-append _ c.loop-of.after.items _)
+          (c.in_ok-text.ensures before led (text_told before of (entries c.args.texts.now) _ had c.text_of.ensures))
+          (c.loop-of.invariant.whole before led had);
+    }
 
 pub returns : goal.returns
 returns g c = λ before led had.
-    texts_made before _ c.args.writes.now (entries c.args.texts.now) (entries c.loop-net.after.items) c.loop-net.net-iterator.rest.items led c.requires had
-    (omega (arith, c.loop-net.net-iterator.rest.ok, c.in-None.ensures.steps.0)) c.loop-net.invariant
+    texts_made _ (entries c.loop-of.after.items) c.loop-of.of-iterator.rest.items c.requires
+    (omega (arith, c.loop-of.of-iterator.rest.ok, c.in-None.ensures.steps.0)) (c.loop-of.invariant.whole before led had)

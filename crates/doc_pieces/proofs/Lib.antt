@@ -1,0 +1,4 @@
+pub mod TextLemmas
+pub mod NameLemmas
+pub mod PlaceLemmas
+pub mod RenewedLemmas

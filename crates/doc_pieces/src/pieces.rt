@@ -1,0 +1,153 @@
+ghost use Rattle.std.specs.Prelude.{◌≡◌, ◌++◌, true, All, IfOk, OnOk, codes, map};
+ghost use Rattle.std.specs.Arc.{arc_value};
+ghost use Rattle.std.specs.List.{flat_map};
+ghost use Rattle.alto_maps.specs.Differ.{DifferAt};
+ghost use Rattle.alto_maps.specs.Shape.{Face, stands};
+ghost use Rattle.doc_pieces.specs.Pieces.{joined, pieces_of, text_of};
+ghost use Rattle.doc_pieces.specs.Pieces as spec;
+
+use crate::frame::{beginning, ending, meta_text};
+use crate::grouped::Grouped;
+use crate::piece::{Piece, written};
+use crate::renewing::renewed_groups;
+use alto_maps::{Place, Walked};
+use json_tree::Name;
+use std::alloc::{AllocError, Global};
+use std::marker::Model;
+use std::sync::Arc;
+
+/// The text of a map's document in pieces, of which other documents may share those of its groups. A contract sees the
+/// bytes.
+#[derive(Drop)]
+pub struct Pieces {
+    beginning: Vec<u8>,
+    groups: Vec<Arc<Piece>>,
+    ending: Vec<u8>,
+}
+
+impl Model for Pieces {
+    ghost use Rattle.std.specs.Prelude.{map};
+    ghost use Rattle.std.specs.Arc.{arc_value};
+    ghost use Rattle.doc_pieces.specs.Pieces.{Pieces};
+
+    ghost Value = { Pieces };
+
+    ghost view = { λ pieces. record {
+      beginning = pieces.beginning.items;
+      groups = map arc_value pieces.groups.items;
+      ending = pieces.ending.items;
+    } };
+}
+
+impl Pieces {
+    /// The pieces of a map. Costs one walk over the groups, and the writing of the meta and of each group.
+    #[tactic(auto, unfolding(crate::specs::Pieces::pieces_of))]
+    pub fn of<M: Grouped>(alloc: Global, source: &M) -> Result<Pieces, AllocError>
+        ensures { IfOk result (λ pieces. pieces ≡ pieces_of M.shape (M.face source.now)) }
+    {
+        let groups = written_groups(alloc, source)?;
+        framed(alloc, source, groups)
+    }
+
+    /// The pieces of a map that differs at these places from the one that these are the pieces of.
+    ///
+    /// Costs one pass over the places and one over the groups, and the writing of the meta and of each group that a
+    /// place touches. All other groups are shared.
+    pub fn renewed<M: Grouped>(
+        &self,
+        alloc: Global,
+        source: &M,
+        places: &[Place],
+    ) -> Result<Pieces, AllocError>
+        ensures { IfOk result (λ pieces. (before : Face) → self.now ≡ pieces_of M.shape before
+            → DifferAt M.shape places.now before (M.face source.now) → pieces ≡ pieces_of M.shape (M.face source.now)) }
+    {
+        let groups = renewed_groups(alloc, &self.groups, source, places)?;
+        framed(alloc, source, groups)
+    }
+
+    /// The text of the document. Costs the copying of its bytes, into room that is taken once.
+    pub fn text(&self, alloc: Global) -> Result<Vec<u8>, AllocError>
+        ensures { IfOk result (λ text. text.items ≡ text_of self.now) }
+    {
+        let mut text = Vec::with_capacity(alloc, self.len())?;
+        text.extend_from_slice(&self.beginning)?;
+        join(&self.groups, &mut text)?;
+        text.extend_from_slice(&self.ending)?;
+        Ok(text)
+    }
+
+    /// The length of the text, unless that is more than there is room for.
+    fn len(&self) -> usize {
+        let mut len = self.beginning.len().saturating_add(self.ending.len());
+        for piece in &self.groups {
+            len = len.saturating_add(piece.text.len()).saturating_add(1);
+        }
+        len
+    }
+}
+
+/// The pieces of a map that has these groups.
+fn framed<M: Walked>(
+    alloc: Global,
+    source: &M,
+    groups: Vec<Arc<Piece>>,
+) -> Result<Pieces, AllocError>
+    ensures { IfOk result (λ pieces. pieces
+        ≡ spec.framed M.shape (M.face source.now).meta (map arc_value groups.items)) }
+{
+    let meta = meta_text(alloc, source)?;
+    Ok(Pieces {
+        beginning: beginning(alloc, source, &meta)?,
+        groups,
+        ending: ending(alloc, source, &meta)?,
+    })
+}
+
+/// The groups of a map, written anew.
+fn written_groups<M: Grouped>(alloc: Global, source: &M) -> Result<Vec<Arc<Piece>>, AllocError>
+    ensures { IfOk result (λ groups. map arc_value groups.items ≡ spec.groups_of (M.face source.now)) }
+{
+    let names = source.group_names(alloc)?;
+    written_each(alloc, source, &names)
+}
+
+/// Groups of these names, which stand.
+fn written_each<M: Grouped>(
+    alloc: Global,
+    source: &M,
+    names: &[Name],
+) -> Result<Vec<Arc<Piece>>, AllocError>
+    requires { All (λ name. stands (M.face source.now) name ≡ true) names.now }
+    ensures { IfOk result (λ groups. map arc_value groups.items
+        ≡ map (spec.piece_of (M.face source.now)) names.now) }
+{
+    let mut groups = Vec::with_capacity(alloc, names.len())?;
+    for name in names {
+        groups.push(written(alloc, source, name.clone()?)?)?;
+    }
+    Ok(groups)
+}
+
+/// Puts the texts of groups at the end, with a comma between each two.
+fn join(groups: &[Arc<Piece>], text: &mut Vec<u8>) -> Result<(), AllocError>
+    ensures { OnOk result (text.new.items ≡ text.old.items ++ joined (map arc_value groups.now)) }
+{
+    let Some((first, rest)) = groups.split_first() else {
+        return Ok(());
+    };
+    text.extend_from_slice(&first.text)?;
+    append(rest, text)
+}
+
+/// Puts the texts of groups at the end, each behind a comma.
+fn append(groups: &[Arc<Piece>], text: &mut Vec<u8>) -> Result<(), AllocError>
+    ensures { OnOk result (text.new.items ≡ text.old.items
+        ++ flat_map (λ piece. codes "," ++ piece.1) (map arc_value groups.now)) }
+{
+    for piece in groups {
+        text.push(b',')?;
+        text.extend_from_slice(&piece.text)?;
+    }
+    Ok(())
+}
