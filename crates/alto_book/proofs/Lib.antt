@@ -21,3 +21,4 @@ pub mod TrimLemmas
 pub mod TrimGraphLemmas
 pub mod TrimNumberLemmas
 pub mod WalkLemmas
+pub mod TrimBodyLemmas

@@ -8,3 +8,4 @@ pub mod Numbers
 pub mod NumberLaws
 pub mod Walks
 pub mod WalkLaws
+pub mod TrimLaws

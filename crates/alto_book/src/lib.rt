@@ -9,6 +9,7 @@ mod command;
 mod fault;
 mod laws;
 mod number_laws;
+mod trim_laws;
 mod walk_laws;
 
 pub use command::{Command, Receipt};
@@ -22,4 +23,5 @@ pub use number_laws::{
     numbers_stay, pushes_are_the_numbers, touched_resources_get_numbers, trim_keeps_numbers,
     untouched_maps_stay,
 };
+pub use trim_laws::trim_keeps_bodies;
 pub use walk_laws::{bodies_stay, earlier_books_are_legal, walks_lead_on};
