@@ -7,3 +7,4 @@ pub mod RuleLemmas
 pub mod NextLemmas
 pub mod StoredRowsLemmas
 pub mod TrimLemmas
+pub mod CrashLemmas

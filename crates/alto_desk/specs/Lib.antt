@@ -6,3 +6,4 @@ pub mod Trim
 pub mod Known
 pub mod Counts
 pub mod Faults
+pub mod Crash

@@ -5,8 +5,10 @@ ghost use Rattle.alto_book.specs.Acceptance.{accept, known};
 ghost use Rattle.alto_book.specs.Book.{all_kept, number_of};
 ghost use Rattle.alto_book.specs.Legal.{IsLegal};
 ghost use Rattle.alto_keeper.specs.Stored.{IsNext, StoredData, Stays, with_row};
+ghost use Rattle.alto_keeper.specs.Stored.{IsKept, IsKeptOrAdded, LeavesFrom, LeavesOnly};
 ghost use Rattle.alto_versions.specs.Front.{StandsFor};
 ghost use Rattle.alto_desk.specs.Counts.{after_edit, after_fault, after_trim};
+ghost use Rattle.alto_desk.specs.Crash.{IsSafe};
 ghost use Rattle.alto_desk.specs.Opening.{Explains};
 ghost use Rattle.alto_desk.specs.Records.{Backs, StoredAs};
 ghost use Rattle.alto_desk.specs.Trim.{trim, trim_number};
@@ -41,6 +43,12 @@ impl<K: Keeper + Drop, R: RowStore> Desk<K, R> {
         ensures refused { IfErr result (λ refusal. K.is_clean refusal.0 → (stored : StoredData) → K.holds keeper stored
             → K.holds refusal.0 stored × Explains refusal.1 stored) }
 
+        // A crash may leave records of the book, or of one that is one call from it; a refusal adds nothing to these.
+        ensures safe { IfOk result (λ desk. K.is_faithful desk.keeper → (stored : StoredData) → K.holds keeper stored
+            → IsSafe K.Keeper desk.keeper desk.ledger.book) }
+        ensures left { IfErr result (λ refusal. K.is_faithful refusal.0 → LeavesFrom (K.may_leave keeper)
+            (K.holds keeper) (K.is_clean keeper) IsKept (K.may_leave refusal.0)) }
+
         ensures clean { IfOk result (λ desk. K.is_clean desk.keeper → K.is_clean keeper) }
         ensures doubt { IfErr result (λ refusal. K.is_clean refusal.0 → K.is_clean keeper) }
         ensures same { IfOk result (λ desk. K.faults desk.keeper ≡ K.faults keeper) }
@@ -48,7 +56,11 @@ impl<K: Keeper + Drop, R: RowStore> Desk<K, R> {
     {
         let mut keeper = keeper;
         match read_ledger(alloc, &mut keeper) {
-            Ok(ledger) => Ok(Desk { keeper, ledger }),
+            Ok(ledger) => {
+                // The version says that the book is legal.
+                let _version = ledger.front();
+                Ok(Desk { keeper, ledger })
+            }
             Err(fault) => Err((keeper, fault)),
         }
     }
@@ -104,6 +116,11 @@ impl<K: Keeper + Drop, R: RowStore> Desk<K, R> {
         ensures kept { K.is_clean self.new.keeper → Backs (K.holds self.old.keeper) self.old.ledger.book
             → Backs (K.holds self.new.keeper) self.new.ledger.book }
 
+        // So is what a crash may leave, or it stands for a legal book that is one call from it.
+        ensures faithful { K.is_faithful self.new.keeper → K.is_faithful self.old.keeper }
+        ensures safe { K.is_faithful self.new.keeper → IsSafe K.Keeper self.old.keeper self.old.ledger.book
+            → IsSafe K.Keeper self.new.keeper self.new.ledger.book }
+
         // `Keeper` is answered exactly where the keeper counted a fault.
         ensures faults { K.faults self.new.keeper ≡ after_edit result (K.faults self.old.keeper) }
         ensures tally { tally.new.count ≡ after_edit result tally.old.count }
@@ -134,6 +151,11 @@ impl<K: Keeper + Drop, R: RowStore> Desk<K, R> {
         ensures kept { K.is_clean self.new.keeper → Backs (K.holds self.old.keeper) self.old.ledger.book
             → Backs (K.holds self.new.keeper) self.new.ledger.book }
 
+        // So is what a crash may leave, or it stands for a legal book that is one call from it.
+        ensures faithful { K.is_faithful self.new.keeper → K.is_faithful self.old.keeper }
+        ensures safe { K.is_faithful self.new.keeper → IsSafe K.Keeper self.old.keeper self.old.ledger.book
+            → IsSafe K.Keeper self.new.keeper self.new.ledger.book }
+
         // The keeper isn't called where the base stays. `Keeper` is answered exactly where it counted a fault.
         ensures idle { trim_number self.old.ledger.book keep ≡ length self.old.ledger.book.receipts
             → self.new.keeper ≡ self.old.keeper }
@@ -147,6 +169,8 @@ impl<K: Keeper + Drop, R: RowStore> Desk<K, R> {
             return Ok(number);
         }
         let (ledger, pieces) = self.ledger.trimmed(alloc, count)?;
+        // So does the next one's.
+        let _next = ledger.front();
         self.keeper.rebase(alloc, &pieces, row_number(number))?;
         self.ledger = ledger;
         Ok(number)
@@ -172,6 +196,10 @@ impl<K: Keeper + Drop, R: RowStore> Desk<K, R> {
         ensures clean { K.is_clean self.new.keeper → K.is_clean self.old.keeper }
         ensures kept { K.is_clean self.new.keeper → Backs (K.holds self.old.keeper) self.old.ledger.book
             → Backs (K.holds self.new.keeper) self.new.ledger.book }
+        ensures faithful { K.is_faithful self.new.keeper → K.is_faithful self.old.keeper }
+        ensures safe { K.is_faithful self.new.keeper → IsLegal self.old.ledger.book
+            → IsSafe K.Keeper self.old.keeper self.old.ledger.book
+            → IsSafe K.Keeper self.new.keeper self.new.ledger.book }
         ensures faults { K.faults self.new.keeper ≡ after_edit result (K.faults self.old.keeper) }
         ensures tally { tally.new.count ≡ after_edit result tally.old.count }
     {
@@ -192,6 +220,15 @@ impl<K: Keeper + Drop, R: RowStore> Desk<K, R> {
             → K.holds self.new.keeper (with_row (pos (number_of self.old.ledger.book + 1)) bytes.now stored)) }
         ensures refused { OnErr result (K.is_clean self.new.keeper
             → Stays (K.holds self.old.keeper) (K.holds self.new.keeper)) }
+        ensures faithful { K.is_faithful self.new.keeper → K.is_faithful self.old.keeper }
+        ensures left { K.is_faithful self.new.keeper → LeavesFrom (K.may_leave self.old.keeper)
+            (K.holds self.old.keeper) (K.is_clean self.old.keeper)
+            (IsKeptOrAdded (pos (number_of self.old.ledger.book + 1)) bytes.now) (K.may_leave self.new.keeper) }
+        ensures settled { OnOk result (K.is_faithful self.new.keeper → K.is_clean self.old.keeper
+            × ((stored : StoredData) → K.holds self.old.keeper stored
+            → IsNext stored (pos (number_of self.old.ledger.book + 1)) → K.is_clean self.new.keeper
+            × LeavesOnly (K.may_leave self.new.keeper)
+            (with_row (pos (number_of self.old.ledger.book + 1)) bytes.now stored))) }
         ensures faults { K.faults self.new.keeper ≡ after_edit result (K.faults self.old.keeper) }
         ensures tally { tally.new.count ≡ after_edit result tally.old.count }
         ensures own { IfErr result (λ fault. (fault ≡ EditFault.Memory) ⊎ (fault ≡ EditFault.Keeper)) }
@@ -226,6 +263,10 @@ fn read_ledger<K: Keeper, R: RowStore>(
     ensures refused { IfErr result (λ fault. K.is_clean keeper.new → (stored : StoredData) → K.holds keeper.old stored
         → Explains fault stored) }
     ensures stays { K.is_clean keeper.new → Stays (K.holds keeper.old) (K.holds keeper.new) }
+    ensures settled { IfOk result (λ ledger. K.is_faithful keeper.new → (stored : StoredData)
+        → K.holds keeper.old stored → StoredAs stored ledger.book × LeavesOnly (K.may_leave keeper.new) stored) }
+    ensures left { K.is_faithful keeper.new → LeavesFrom (K.may_leave keeper.old) (K.holds keeper.old)
+        (K.is_clean keeper.old) IsKept (K.may_leave keeper.new) }
     ensures clean { K.is_clean keeper.new → K.is_clean keeper.old }
     ensures same { OnOk result (K.faults keeper.new ≡ K.faults keeper.old) }
     ensures counted { IfErr result (λ fault. K.faults keeper.new ≡ after_fault fault (K.faults keeper.old)) }

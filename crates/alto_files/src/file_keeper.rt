@@ -42,7 +42,15 @@ impl Keeper for FileKeeper {
 
     ghost is_clean = { λ _. ⊥ };
 
+    ghost is_faithful = { λ _. ⊥ };
+
+    ghost may_leave = { λ _ _. ⊥ };
+
     ghost faults = { λ keeper. keeper.records.faults };
+
+    ghost faithful_if_clean = { λ _ clean. clean };
+
+    ghost leaves_some = { λ _ faithful. absurd faithful };
 
     fn load(&mut self, alloc: Global) -> Result<Stored, KeepFault> {
         self.records.load(alloc)

@@ -1,5 +1,5 @@
 -- What records hold, and what a call on them does to it.
-use Rattle.std.specs.Prelude.{ℕ, ◌+◌, ◌-◌, ◌^◌, ℤ, pos, ◌<ℤ◌, ◌≤ℤ◌, int_le, min, Bool, ◌==◌, ◌&&◌, not, if◌then◌else◌, List, [], ◌∷◌, ◌++◌, Result, Ok, Err, All, filter}
+use Rattle.std.specs.Prelude.{◌≡◌, ◌⊎◌, ℕ, ◌+◌, ◌-◌, ◌^◌, ℤ, pos, ◌<ℤ◌, ◌≤ℤ◌, int_le, min, Bool, ◌==◌, ◌&&◌, not, if◌then◌else◌, List, [], ◌∷◌, ◌++◌, Result, Ok, Err, All, filter}
 use Rattle.alto_keeper.specs.declared.fault.KeepFault.{KeepFault}
 use Rattle.alto_keeper.specs.declared.fault.KeepFault.TheVariants as fault
 
@@ -42,6 +42,30 @@ rebased pieces upto stored =
 -- what was held is held afterwards, as it was
 abbrev pub Stays : (StoredData → Type 0) → (StoredData → Type 0) → Type 0
 Stays before after = (kept : StoredData) → before kept → after kept
+
+-- these are the records that were kept
+abbrev pub IsKept : StoredData → StoredData → Type 0
+IsKept kept found = found ≡ kept
+
+-- these are the records that were kept, or these with the next row
+abbrev pub IsKeptOrAdded : ℤ → List ℕ → StoredData → StoredData → Type 0
+IsKeptOrAdded n bytes kept found = IsNext kept n → (found ≡ kept) ⊎ (found ≡ with_row n bytes kept)
+
+-- these are the records that were kept, or these with another base
+abbrev pub IsKeptOrRebased : List (List ℕ) → ℤ → StoredData → StoredData → Type 0
+IsKeptOrRebased pieces upto kept found = (found ≡ kept) ⊎ (found ≡ rebased pieces upto kept)
+
+-- what a crash may leave after a call it could leave before it, or nothing was in doubt, and what was held became this
+abbrev pub LeavesFrom : (before held : StoredData → Type 0) (was_clean : Type 0)
+    (becomes : StoredData → StoredData → Type 0) (after : StoredData → Type 0)
+    → Type 0
+LeavesFrom before held was_clean becomes after =
+    (found : StoredData) → after found
+    → before found ⊎ (was_clean × ((kept : StoredData) → held kept → becomes kept found))
+
+-- a crash may leave no other records than these
+abbrev pub LeavesOnly : (StoredData → Type 0) → StoredData → Type 0
+LeavesOnly may_leave stored = (found : StoredData) → may_leave found → found ≡ stored
 
 -- a count that has risen by one: it stops at the last number of 64 bits
 abbrev pub one_more : ℕ → ℕ

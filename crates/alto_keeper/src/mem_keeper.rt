@@ -74,13 +74,21 @@ impl MemKeeper {
 }
 
 impl Keeper for MemKeeper {
-    ghost use Rattle.std.specs.Prelude.{⊤};
+    ghost use Rattle.std.specs.Prelude.{⊤, refl};
 
     ghost holds = { λ keeper kept. keeper.stored ≡ kept };
 
     ghost is_clean = { λ _. ⊤ };
 
+    ghost is_faithful = { λ _. ⊤ };
+
+    ghost may_leave = { λ keeper found. keeper.stored ≡ found };
+
     ghost faults = { λ keeper. keeper.faults };
+
+    ghost faithful_if_clean = { λ _ clean. clean };
+
+    ghost leaves_some = { λ keeper _. ∣ (keeper.stored, refl) ∣₁ };
 
     fn load(&mut self, alloc: Global) -> Result<Stored, KeepFault>
         ensures fails { has_failed result ≡ fails self.old }

@@ -1,6 +1,6 @@
 -- What the statements do to the records in a database.
-use Rattle.std.proofs.Common.{◌≡◌, ◌⊎◌, inl, inr, ℕ, ◌+◌, ℤ, pos, ◌-ℤ◌, ◌<ℤ◌, ◌≤ℤ◌, List, [], ◌∷◌, ◌++◌, length, Bool, true, false, cond, not, ◌&&◌, if◌then◌else◌, int_le, int_eq, Option, Some, None, Ok, Err, Result, append-nil, map, filter, flat_map, IsTrue, OnErr, IsPermutation, refl, sym, ap, ap₂, subst, ◌∙◌, arith}
-use Rattle.std.specs.List.{AllByRecursion, list_all}
+use Rattle.std.proofs.Common.{◌≡◌, ◌⊎◌, inl, inr, ℕ, ℤ, pos, ◌-ℤ◌, ◌<ℤ◌, ◌≤ℤ◌, List, [], ◌∷◌, ◌++◌, length, Bool, true, false, cond, not, ◌&&◌, int_le, int_eq, Option, Some, None, Ok, Err, Result, append-nil, map, filter, flat_map, IsTrue, IsSome, OnOk, OnErr, IfErr, IsPermutation, refl, sym, ap, ap₂, subst, ◌∙◌, arith}
+use Rattle.std.specs.List.{list_all}
 use Rattle.std.proofs.lemmas.Int.{ints}
 use Rattle.std.proofs.lemmas.Bool.{cases_Bool}
 use Rattle.std.proofs.lemmas.Bool.Decides.{nat_tests}
@@ -17,9 +17,9 @@ use Rattle.std.specs.Ordering.{ordering_then}
 use Rattle.sqlite_sql.proofs.QueryLemmas.{output_cmp_total}
 use Rattle.sqlite_rules.specs.Edit.{without_all, id_in}
 use Rattle.sqlite_rules.specs.Calls.{ids_of}
-use Rattle.sqlite_keyed.proofs.ListLemmas.{map-map, all-append, all-filter, all_weaker, ascending-filter, ascending-map, ascending_weaker}
+use Rattle.sqlite_keyed.proofs.ListLemmas.{map-map, all-append, all-filter, ascending-filter, ascending-map, ascending_weaker}
 use Rattle.sqlite_keyed.proofs.SortLemmas.{sorted_unique}
-use Rattle.sqlite.specs.Query.{Query, end, inner, IsAnswer, output, output_cmp, page, matches_as, Output}
+use Rattle.sqlite.specs.Query.{end, IsAnswer, output, output_cmp, page, matches_as, Output}
 use Rattle.sqlite.specs.Program.{overlay}
 use Rattle.sqlite.specs.declared.types.Value.{Value}
 use Rattle.sqlite.specs.declared.types.Value.TheVariants.{Null, Int, Blob as Bytes}
@@ -39,9 +39,9 @@ use Rattle.sqlite.specs.Effect.{Database}
 use Rattle.sqlite.specs.Listing.{understood}
 use Rattle.sqlite_resolve.specs.declared.compiled.Compiled.{Compiled}
 use Rattle.sqlite_schema.specs.declared.command.Returning.{Returning}
-use Rattle.sqlite.specs.State.{State, mode_of, Writes, Runs, RunsCommand, Executes, ExecutesIn, IsNotRun, IsUnchanged, IsRolledBack, Fails, FailsToQuery, FailsToShow, Shown, ShowsRows, CommitsBy, Survives, HasCleanDisk, text_of, shows_rows}
+use Rattle.sqlite.specs.State.{State, mode_of, Writes, Runs, RunsCommand, Executes, ExecutesIn, IsNotRun, IsUnchanged, IsRolledBack, FailsToQuery, FailsToShow, Shown, ShowsRows, CommitsBy, CommitsShowing, text_of, shows_rows}
 use Rattle.sqlite.specs.declared.run.Mode.{Mode}
-use Rattle.sqlite.specs.Order.{Row, column}
+use Rattle.sqlite.specs.Order.{Row}
 use Rattle.sqlite.specs.declared.error.Error.{Error}
 use Rattle.sqlite.proofs.Callers.{IsPlain, command_of, runs_as, reads_as, one_step, statement_of}
 use Rattle.alto_keeper.specs.Stored.{RowData, StoredData, IsNext, with_row, rebased, nothing}
@@ -63,7 +63,7 @@ run_ends : (old new : State) (sql : List ℕ) (c : Compiled) (params : Row) (e :
 run_ends old new sql c params e (inl stays) = inl stays.1
 run_ends old new sql c params e (inr fails) = inr fails.3
 
-not_run_ends : (old new : State) (sql : List ℕ) (params : Row) (e : Error) → IsNotRun old new sql params e
+pub not_run_ends : (old new : State) (sql : List ℕ) (params : Row) (e : Error) → IsNotRun old new sql params e
     → Ends old new
 unfolding IsNotRun
 not_run_ends old new sql params e (inl stays) = inl stays.1
@@ -93,6 +93,14 @@ query_ends sql params old new e (inr fails) = fails_ends old new sql fails.0 _ e
 pub ends_open : (old new : State) → Ends old new → IsTrue new.is_open → IsTrue old.is_open
 ends_open old new (inl same) is_open = same.0.was_open
 ends_open old new (inr back) is_open = back.was_open is_open
+
+-- a database that is open after it was asked whether it is, was so before
+pub probe_open : {T : Type 0} (sql : List ℕ) (params : Row) (old new : State) (r : Result T Error)
+    → OnOk r (IsUnchanged old new)
+    → IfErr r (IsNotRun old new sql params) → IsTrue new.is_open → IsTrue old.is_open
+probe_open sql params old new (Ok value) same fails is_open = same.0.was_open
+probe_open sql params old new (Err e) same fails is_open =
+    ends_open old new (not_run_ends old new sql params e fails) is_open
 
 -- an idle database stays so, and sees what it saw
 pub ends_idle : (old new : State) → Ends old new → IsTrue new.is_open → IsIdle old → IsIdle new × (new.now ≡ old.now)
@@ -309,6 +317,14 @@ added_held old new stored row count holds next h =
       added_row old new stored row count holds.1 next h,
     )
 
+-- a database that took a row is open
+pub added_open : (old new : State) (stored : StoredData) (row : RowData) (count : ℕ) → HasRows old.now stored
+    → Executes insert_text (Int row.n ∷ Bytes row.bytes ∷ []) old new (Ok count) → IsTrue new.is_open
+added_open old new stored row count has h =
+    let w = runs_as insert_text (Int row.n ∷ Bytes row.bytes ∷ []) old new alto_schema has.schema
+    (Insert 0 (Values terms 3)) insert_is insert_plain count h in
+    w.shown.is_open
+
 -- what SELECT shows of the records
 module _ (trees : Trees) (rows : List RowData) (has : trees 0 ≡ map table_row rows) where
   abbrev shown : RowData → Output
@@ -523,28 +539,12 @@ create_left is_made old stored found (inr none) h =
     ] in
     empty ∙ sym (ap table_rows none.2)
 
--- a crash while the table is made
-pub create_crash : (is_made : Bool) (old new : State) (stored : StoredData)
-    → Survives old new (CommitsBy create_text [] old)
-    → HasCleanDisk new → HasRows old.now stored ⊎
-    ((is_made ≡ false) × (old.now.schema ≡ no_schema) × (stored ≡ nothing))
-    → (found : Trees) → new.may_leave found → old.may_leave found ⊎ (found 0 ≡ table_rows stored)
-create_crash is_made old new stored survives clean holds found may = elim (survives.crash clean found may) [
-  | inl before ↦ inl before
-  | inr commits ↦ inr (create_left is_made old stored found holds commits)
-]
-
--- a crash while the row is added
-pub insert_crash : (Before : Trees → Type 0) (old new : State) (stored : StoredData) (row : RowData)
-    → Survives old new (CommitsBy insert_text (Int row.n ∷ Bytes row.bytes ∷ []) old) → HasCleanDisk new
-    → HasRows old.now stored
-    → IsNext stored row.n → ((found : Trees) → old.may_leave found → Before found ⊎ (found 0 ≡ table_rows stored))
-    → (found : Trees) → new.may_leave found
-    → Before found ⊎ ((found 0 ≡ table_rows stored) ⊎ (found 0 ≡ table_rows (with_row row.n row.bytes stored)))
-insert_crash Before old new stored row survives clean has next first found may = elim (survives.crash clean found may) [
-  | inl before ↦ elim (first found before) [
-    | inl earlier ↦ inl earlier
-    | inr held ↦ inr (inl held)
-  ]
-  | inr commits ↦ inr (inr (row_left old stored row found has next commits))
-]
+-- SELECT commits nothing
+pub shows_nothing : (old : State) (stored : StoredData) (found : Trees) → HasRows old.now stored
+    → CommitsShowing select_text [] old found → ⊥
+unfolding CommitsShowing
+shows_nothing old stored found has h =
+    let known : understood alto_schema select_text ≡ Ok h.0 = sym (ap (λ s. understood s select_text) has.schema)
+    ∙ h.1.is in
+    let bare : h.0.returning ≡ None = (subst IsPlain known select_plain).0 in
+    absurd (let e = subst (λ (o : Option Returning). IsSome o) bare h.2 in cc)

@@ -3,6 +3,7 @@ use Rattle.std.specs.Prelude.{ℕ, ℤ, pos, int_lt, not, List, [], map, filter,
 use Rattle.sqlite.specs.declared.types.Value.{Value}
 use Rattle.sqlite.specs.declared.types.Value.TheVariants.{Null, Int, Real, Text, Blob}
 use Rattle.sqlite.specs.Order.{Row, column}
+use Rattle.sqlite.specs.Tree.{Trees}
 use Rattle.alto_keeper.specs.Stored.{RowData, StoredData}
 use Rattle.keeper_sqlite.specs.Store.{flipped}
 
@@ -32,3 +33,11 @@ stored_in rows = record {
   base = reverse (map flipped (filter (λ row. int_lt row.n (pos 0)) rows));
   rows = filter (λ row. not (int_lt row.n (pos 0))) rows;
 }
+
+-- the number and the bytes that stand in a row of the table
+abbrev pub record_in : Row → RowData
+record_in row = record { n = number_in (column row 0); bytes = bytes_in (column row 2) }
+
+-- the records that stand in the table of a database
+abbrev pub records_in : Trees → StoredData
+records_in trees = stored_in (map record_in (trees 0))

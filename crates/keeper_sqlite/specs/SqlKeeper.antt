@@ -1,6 +1,8 @@
 -- Records in a database: what a keeper of them is, and what it holds.
 use Rattle.std.specs.Prelude.{◌≡◌, ◌⊎◌, ℕ, ℤ, Bool, false, List, [], Result, Ok, Err, IsTrue, IfOk, OnOk, refl}
 use Rattle.std.specs.Coded.{Coded, code_by, coded×, coded_ℕ, coded_bool}
+use Rattle.std.proofs.Math.Logic.{∥∥₁_map}
+use Rattle.sqlite_trees.specs.View.{doubt}
 use Rattle.sqlite.specs.Held.{Held, held_code, state}
 use Rattle.sqlite.specs.State.{State, HasCleanDisk, KeepsCommit}
 use Rattle.sqlite.specs.Store.{Ghosts}
@@ -12,6 +14,7 @@ use Rattle.alto_keeper.specs.declared.fault.KeepFault.{KeepFault}
 use Rattle.alto_keeper.specs.declared.fault.KeepFault.TheVariants as fault
 use Rattle.alto_keeper.specs.Stored.{StoredData, IsNext, with_row, rebased, nothing, Stays}
 use Rattle.keeper_sqlite.specs.Store.{HasRows, no_schema, table_rows, with_base}
+use Rattle.keeper_sqlite.specs.Reading.{records_in}
 
 -- its connection, whether it has made the table, and how many calls were refused
 pub record SqlKeeperData (S : Type 0) : Type 0 where
@@ -57,9 +60,34 @@ module _ {S : Type 0} (g : Ghosts S) where
   abbrev pub IsSure : SqlKeeperData S → Type 0
   IsSure keeper = IsClean (state g keeper.conn)
 
+  -- the disk has returned what was written so far
+  abbrev pub IsFaithful : SqlKeeperData S → Type 0
+  IsFaithful keeper = HasCleanDisk (state g keeper.conn)
+
   -- the database of a keeper holds records
   abbrev pub Holds : SqlKeeperData S → StoredData → Type 0
   Holds keeper = HoldsIn keeper.is_made (state g keeper.conn)
+
+  -- an open after a crash may find trees in which these records are read
+  abbrev pub MayLeave : SqlKeeperData S → StoredData → Type 0
+  MayLeave keeper stored = (found : Trees) × (state g keeper.conn).may_leave found × (records_in found ≡ stored)
+
+-- an open after a crash finds some records
+pub leaves_some : {S : Type 0} (is_clean : S → Bool) (recovers : S → Trees → Type 0)
+    → ((store : S) → doubt (is_clean store) ≡ 0 → ∥ ((found : Trees) × recovers store found) ∥₁)
+    → (store : S) → doubt (is_clean store) ≡ 0
+    → ∥ ((stored : StoredData) × ((found : Trees) × recovers store found × (records_in found ≡ stored))) ∥₁
+leaves_some is_clean recovers law store clean = ∥∥₁_map (law store clean) (λ it. (records_in it.0, (it.0, it.1, refl)))
+
+-- over a clean disk, a crash then finds what it could find before, or what this tells
+abbrev pub CrashFinds : State → State → (Trees → Type 0) → Type 0
+CrashFinds old new Tells =
+    HasCleanDisk new → (found : Trees) → new.may_leave found → old.may_leave found ⊎ Tells found
+
+-- nothing puts a database in doubt, and a crash finds the rows of these records
+abbrev pub IsSettled : State → StoredData → Type 0
+IsSettled database stored =
+    IsClean database × ((found : Trees) → database.may_leave found → found 0 ≡ table_rows stored)
 
 -- over a clean disk, a transaction goes on, nothing is committed, and these pieces stand where no base was
 abbrev pub HasAdded : {S : Type 0} → Ghosts S → Held S → Held S → List (List ℕ) → Type 0
@@ -99,16 +127,32 @@ module _ {S : Type 0} (g : Ghosts S) (old new : SqlKeeperData S) where
   Moves pieces upto result =
       OnOk result (IsSure g new → (stored : StoredData) → Holds g old stored → Holds g new (rebased pieces upto stored))
 
-  -- over a clean disk, a crash then finds what it could find before, or the records that were held
+  -- what broke the disk lasts
+  abbrev pub StaysFaithful : Type 0
+  StaysFaithful = IsFaithful g new → IsFaithful g old
+
+  -- a crash then finds what it could find before; or nothing was in doubt, and it finds the records that were held
   abbrev pub CrashKeeps : Type 0
   CrashKeeps =
-      HasCleanDisk (state g new.conn) → (stored : StoredData) → Holds g old stored → (found : Trees)
-      → (state g new.conn).may_leave found → (state g old.conn).may_leave found ⊎ (found 0 ≡ table_rows stored)
+      CrashFinds (state g old.conn) (state g new.conn)
+      (λ found. IsSure g old × ((stored : StoredData) → Holds g old stored → found 0 ≡ table_rows stored))
 
-  -- over a clean disk, a crash then finds what it could find before, or the records that were held, with the row or not
+  -- the same, and with the records it may find the row
   abbrev pub CrashAdds : ℤ → List ℕ → Type 0
   CrashAdds n bytes =
-      HasCleanDisk (state g new.conn) → (stored : StoredData) → Holds g old stored → IsNext stored n → (found : Trees)
-      → (state g new.conn).may_leave found
-      → (state g old.conn).may_leave found
-      ⊎ ((found 0 ≡ table_rows stored) ⊎ (found 0 ≡ table_rows (with_row n bytes stored)))
+      CrashFinds (state g old.conn) (state g new.conn)
+      (λ found. IsSure g old × ((stored : StoredData) → Holds g old stored → IsNext stored n
+      → (found 0 ≡ table_rows stored) ⊎ (found 0 ≡ table_rows (with_row n bytes stored))))
+
+  -- the same, and with the records it may find the base
+  abbrev pub CrashMoves : List (List ℕ) → ℤ → Type 0
+  CrashMoves pieces upto =
+      CrashFinds (state g old.conn) (state g new.conn)
+      (λ found. IsSure g old × ((stored : StoredData) → Holds g old stored
+      → (found 0 ≡ table_rows stored) ⊎ (found 0 ≡ table_rows (rebased pieces upto stored))))
+
+  -- over a clean disk, an Ok tells that nothing was in doubt, and that records which fit became these for good
+  abbrev pub Settles : {T E : Type 0} → (StoredData → Type 0) → (StoredData → StoredData) → Result T E → Type 0
+  Settles Fits after result =
+      OnOk result (IsFaithful g new → IsSure g old × ((stored : StoredData) → Holds g old stored → Fits stored
+      → IsSettled (state g new.conn) (after stored)))

@@ -1,6 +1,10 @@
 -- The statements on the one table of a store.
 use Rattle.std.specs.Prelude.{ℕ, List, codes}
 
+-- asks nothing of a database but whether it is open
+abbrev pub probe_text : List ℕ
+probe_text = codes "SELECT 1"
+
 -- makes the table
 abbrev pub create_text : List ℕ
 create_text = codes "CREATE TABLE IF NOT EXISTS alto_row (n INTEGER PRIMARY KEY, bytes BLOB NOT NULL) STRICT"

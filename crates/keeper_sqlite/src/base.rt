@@ -2,8 +2,8 @@ ghost use Rattle.std.specs.Prelude.{◌≡◌, ◌<◌, ◌^◌, ◌≤ℤ◌, �
 ghost use Rattle.sqlite.specs.Held.{state};
 ghost use Rattle.sqlite.specs.State.{HasCleanDisk, KeepsCommit, Survives};
 ghost use Rattle.alto_keeper.specs.Stored.{StoredData, rebased};
-ghost use Rattle.keeper_sqlite.specs.Store.{HasRows};
-ghost use Rattle.keeper_sqlite.specs.SqlKeeper.{IsClean, IsIdle, HoldsRows, HasAdded};
+ghost use Rattle.keeper_sqlite.specs.Store.{HasRows, table_rows};
+ghost use Rattle.keeper_sqlite.specs.SqlKeeper.{IsClean, IsIdle, HoldsRows, HasAdded, CrashFinds, IsSettled};
 
 use crate::statements;
 use sqlite::{Alter, Connection, Error, ErrorCode, Transaction};
@@ -21,6 +21,13 @@ pub fn replace_base<S: Alter>(
         → HoldsRows (state S.Store conn.new) (rebased (map vec_items pieces.now) upto stored)) }
     ensures refused { OnErr result (IsClean (state S.Store conn.new) → IsIdle (state S.Store conn.old)
         → IsIdle (state S.Store conn.new) × ((state S.Store conn.new).now ≡ (state S.Store conn.old).now)) }
+    ensures faithful { HasCleanDisk (state S.Store conn.new) → HasCleanDisk (state S.Store conn.old) }
+    ensures crash { CrashFinds (state S.Store conn.old) (state S.Store conn.new) (λ found. (stored : StoredData)
+        → HoldsRows (state S.Store conn.old) stored
+        → found 0 ≡ table_rows (rebased (map vec_items pieces.now) upto stored)) }
+    ensures settled { OnOk result (HasCleanDisk (state S.Store conn.new) → (stored : StoredData)
+        → HoldsRows (state S.Store conn.old) stored
+        → IsSettled (state S.Store conn.new) (rebased (map vec_items pieces.now) upto stored)) }
 {
     if !conn.is_autocommit() {
         return Err(Error::SqliteFailure(ErrorCode::TransactionState));

@@ -3,14 +3,13 @@
 //!
 //! Each statement is behind a small function of its own. The keeper counts each refusal of the database, unless it is
 //! out of memory. While the disk was clean and no fault has shut the database, contracts see what each call does to the
-//! records, and of an append what a crash then finds.
+//! records. What a crash then finds they see also once a fault has shut it: the keeper asks first whether it is open,
+//! and writes nothing any more where it isn't.
 #![tactic(auto)]
 
 mod base;
 mod reading;
 mod sql_keeper;
 mod statements;
-#[cfg(test)]
-mod tests;
 
 pub use sql_keeper::SqlKeeper;

@@ -1,10 +1,23 @@
-ghost use Rattle.std.specs.Prelude.{◌≡◌, [], ◌∷◌, IsTrue, IfOk, IfErr};
+ghost use Rattle.std.specs.Prelude.{◌≡◌, [], ◌∷◌, IsTrue, IfOk, IfErr, OnOk};
 ghost use Rattle.sqlite.specs.declared.types.Value.TheVariants.{Int, Blob};
 ghost use Rattle.sqlite.specs.Held.{state};
-ghost use Rattle.sqlite.specs.State.{HasCleanDisk, Executes, ExecutesInside, Shown, FailsToQuery, Survives, CommitsBy, CommitsShowing};
-ghost use Rattle.keeper_sqlite.specs.Texts.{create_text, select_text, insert_text, delete_text};
+ghost use Rattle.sqlite.specs.State.{HasCleanDisk, Executes, ExecutesInside, Shown, FailsToQuery, IsUnchanged, IsNotRun};
+ghost use Rattle.sqlite.specs.State.{Survives, CommitsBy, CommitsShowing};
+ghost use Rattle.keeper_sqlite.specs.Texts.{probe_text, create_text, select_text, insert_text, delete_text};
 
 use sqlite::{Alter, Connection, Error, Row, Transaction, params};
+
+/// Asks whether the database is open. Commits nothing.
+pub fn probe<S: Alter>(conn: &mut Connection<S>) -> Result<(), Error>
+    ensures unchanged { HasCleanDisk (state S.Store conn.new)
+        → OnOk result (IsUnchanged (state S.Store conn.old) (state S.Store conn.new)) }
+    ensures fails { HasCleanDisk (state S.Store conn.new)
+        → IfErr result (IsNotRun (state S.Store conn.old) (state S.Store conn.new) probe_text []) }
+    ensures survives { Survives (state S.Store conn.old) (state S.Store conn.new) (λ _. ⊥) }
+{
+    conn.prepare("SELECT 1")?;
+    Ok(())
+}
 
 /// Makes the table, unless it is there.
 pub fn create<S: Alter>(conn: &mut Connection<S>) -> Result<usize, Error>

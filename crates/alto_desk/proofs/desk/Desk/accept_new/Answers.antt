@@ -1,10 +1,15 @@
+-- The row of the batch is kept, and what a crash may leave stands for the book with the batch or without it.
 use Rattle.std.proofs.Common.{sym, ap, ◌∙◌, subst}
 use Rattle.std.specs.Arc.{arc_value}
 use Rattle.alto_book.specs.Acceptance.{with_batch}
 use Rattle.alto_book.specs.Book.{Book}
+use Rattle.alto_book.specs.Legal.{IsLegal}
+use Rattle.alto_rows.specs.Accepted.{Accepted}
 use Rattle.batch_code.specs.Spelling.{batch_bytes}
 use Rattle.batch_code.specs.Storable.{IsStorable}
+use Rattle.alto_desk.specs.Crash.{IsSafe}
 use Rattle.alto_desk.specs.Ledger.{LedgerData}
+use Rattle.alto_desk.proofs.CrashLemmas.{safe_added, safe_unless_added}
 use Rattle.alto_desk.proofs.RecordLemmas.{backs_more}
 use Rattle.alto_desk.proofs.desk.Desk.accept_new.Goals as goal
 
@@ -21,3 +26,30 @@ returns-clause-kept g c = λ clean backed.
     storable
     (λ stored held next. c.in_ok-keep.ensures.kept clean stored held next)
     backed
+
+pub returns-clause-safe : goal.returns-clause-safe
+returns-clause-safe g c = λ faithful legal safe.
+    let book = c.args.self.now.ledger.book in
+    let batch = arc_value c.in_ok-batch.batch in
+    safe_added g.K.Keeper _ _ book _ (returns-clause-kept g c) c.in_ok-keep.ensures.clean safe _ batch _
+    c.in_ok-reserve.ensures.book
+    (c.deref-3.ensures.value ∙ (c.in_ok-bytes.ensures ∙ ap batch_bytes c.deref-2.ensures))
+    (c.add.ensures.book
+    ∙ (ap (λ (ledger : LedgerData). with_batch ledger.book batch) c.in_ok-keep.ensures.ledger
+    ∙ ap (λ (book : Book). with_batch book batch) c.in_ok-reserve.ensures.book))
+    (subst IsStorable (sym c.in_ok-batch.ensures.ok) c.in_ok-next_batch.ensures.storable)
+    (subst (λ (b : Accepted). IsLegal (with_batch book b)) (sym c.in_ok-batch.ensures.ok) c.in_ok-next_batch.ensures.legal)
+    (c.in_ok-keep.ensures.settled faithful)
+
+pub returns-in_err-keep-clause-safe : goal.returns-in_err-keep-clause-safe
+returns-in_err-keep-clause-safe g c = λ faithful legal safe.
+    let book = c.args.self.now.ledger.book in
+    let batch = arc_value c.in_ok-batch.batch in
+    subst (λ (ledger : LedgerData). IsSafe g.K.Keeper c.keep.new.self.keeper ledger.book) (sym c.in_err-keep.ensures.ledger)
+    (safe_unless_added g.K.Keeper c.args.self.now.keeper c.keep.new.self.keeper book legal c.in_err-keep.ensures.clean
+    c.in_err-keep.ensures.refused safe _ batch _
+    c.in_ok-reserve.ensures.book
+    (c.deref-3.ensures.value ∙ (c.in_ok-bytes.ensures ∙ ap batch_bytes c.deref-2.ensures))
+    (subst IsStorable (sym c.in_ok-batch.ensures.ok) c.in_ok-next_batch.ensures.storable)
+    (subst (λ (b : Accepted). IsLegal (with_batch book b)) (sym c.in_ok-batch.ensures.ok) c.in_ok-next_batch.ensures.legal)
+    (c.in_err-keep.ensures.left faithful))

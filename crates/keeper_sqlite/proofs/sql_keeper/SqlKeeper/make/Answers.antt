@@ -1,60 +1,15 @@
--- The table is made, or was there; a refusal leaves all.
-use Rattle.std.proofs.Common.{◌≡◌, ◌⊎◌, [], sym, subst, inl, arith}
-use Rattle.sqlite.specs.Held.{state}
-use Rattle.sqlite.specs.State.{HasCleanDisk}
-use Rattle.sqlite.specs.Tree.{Trees}
-use Rattle.keeper_sqlite.specs.Store.{table_rows}
-use Rattle.keeper_sqlite.specs.Texts.{create_text}
-use Rattle.keeper_sqlite.specs.SqlKeeper.{SqlKeeperData, Holds, IsClean}
-use Rattle.keeper_sqlite.proofs.StatementLemmas.{executes_open, created_held, create_crash, refused_ends, ends_idle, still_held, on_err}
+-- What was held when the database was asked is held when the table is made.
+use Rattle.keeper_sqlite.proofs.AddingLemmas.{on_ok_weaker, on_err_weaker}
 use Rattle.keeper_sqlite.proofs.sql_keeper.SqlKeeper.make.Goals as goal
 
-pub returns-in_err-create-clause-clean : goal.returns-in_err-create-clause-clean
-returns-in_err-create-clause-clean g c sure =
-    subst (λ (keeper : SqlKeeperData g.row.S.Denot). IsClean (state g.S.Store keeper.conn)) c.self.view_is (
-      omega (arith, sure.0, c.create.ensures.survives.clean),
-      executes_open create_text [] (state g.S.Store c.self.inside.conn) (state g.S.Store c.create.new.conn) _
-          (c.create.ensures.runs sure.0) sure.1,
-    )
+pub returns-clause-made : goal.returns-clause-made
+returns-clause-made g c =
+    on_ok_weaker c.make_table.result (λ made clean stored holds.
+    made clean stored (c.in_ok-probe.ensures.stays (c.make_table.ensures.faithful clean) stored holds))
+    c.make_table.ensures.made
 
-pub returns-in_ok-create-clause-clean : goal.returns-in_ok-create-clause-clean
-returns-in_ok-create-clause-clean g c sure =
-    subst (λ (keeper : SqlKeeperData g.row.S.Denot). IsClean (state g.S.Store keeper.conn)) c.self.view_is (
-      omega (arith, sure.0, c.create.ensures.survives.clean),
-      executes_open create_text [] (state g.S.Store c.self.inside.conn) (state g.S.Store c.create.new.conn) _
-          (c.create.ensures.runs sure.0) sure.1,
-    )
-
-pub returns-in_ok-create-clause-made : goal.returns-in_ok-create-clause-made
-returns-in_ok-create-clause-made g c clean stored holds =
-    created_held c.self.inside.is_made (state g.S.Store c.self.inside.conn) (state g.S.Store c.create.new.conn) stored _
-    (c.in_ok-create.ensures.runs clean)
-    (subst (λ (keeper : SqlKeeperData g.row.S.Denot). Holds g.S.Store keeper stored) (sym c.self.view_is) holds)
-
-pub returns-in_err-create-clause-refused : goal.returns-in_err-create-clause-refused
-returns-in_err-create-clause-refused g c =
-    on_err c.from_residual.result (λ sure stored holds.
-    let had = subst (λ (keeper : SqlKeeperData g.row.S.Denot). Holds g.S.Store keeper stored)
-    (sym c.self.view_is) holds in
-    let old = state g.S.Store c.self.inside.conn in
-    let new = state g.S.Store c.create.new.conn in
-    still_held c.self.inside.is_made old new stored
-    (ends_idle old new (refused_ends create_text [] old new _ (c.in_err-create.ensures.runs sure.0)) sure.1 had.0) had)
-
-pub returns-in_ok-create-clause-crash : goal.returns-in_ok-create-clause-crash
-returns-in_ok-create-clause-crash g c clean stored =
-    subst (λ (keeper : SqlKeeperData g.row.S.Denot). Holds g.S.Store keeper stored → (found : Trees)
-    → g.S.Store.recovers c.create.new.conn.store found
-    → g.S.Store.recovers keeper.conn.store found ⊎ (found 0 ≡ table_rows stored)) c.self.view_is
-    (λ holds. create_crash c.self.inside.is_made (state g.S.Store c.self.inside.conn)
-    (state g.S.Store c.create.new.conn) stored
-    c.create.ensures.survives clean holds.1)
-
-pub returns-in_err-create-clause-crash : goal.returns-in_err-create-clause-crash
-returns-in_err-create-clause-crash g c clean stored =
-    subst (λ (keeper : SqlKeeperData g.row.S.Denot). Holds g.S.Store keeper stored → (found : Trees)
-    → g.S.Store.recovers c.create.new.conn.store found
-    → g.S.Store.recovers keeper.conn.store found ⊎ (found 0 ≡ table_rows stored)) c.self.view_is
-    (λ holds. create_crash c.self.inside.is_made (state g.S.Store c.self.inside.conn)
-    (state g.S.Store c.create.new.conn) stored
-    c.create.ensures.survives clean holds.1)
+pub returns-clause-refused : goal.returns-clause-refused
+returns-clause-refused g c =
+    on_err_weaker c.make_table.result (λ refused sure stored holds.
+    refused sure stored (c.in_ok-probe.ensures.stays (c.make_table.ensures.faithful sure.0) stored holds))
+    c.make_table.ensures.refused
