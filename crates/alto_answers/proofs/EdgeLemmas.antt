@@ -1,12 +1,15 @@
 -- The edges of a resource, by the updates graph of a version.
 use Rattle.std.proofs.Common.{◌≡◌, ℕ, ◌≤◌, ◌==◌, true, false, Bool, List, Option, Some, None, if◌then◌else◌, refl, ap, sym, subst, ◌∙◌, arith}
 use Rattle.std.proofs.lemmas.Bool.Decides.{nat_tests}
+use Rattle.std.specs.List.{flat_map}
+use Rattle.std.specs.List.Sorted.{IsStrictlySortedBy}
 use Rattle.alto_http.specs.declared.request.Verb.{Verb}
 use Rattle.alto_http.specs.declared.request.Verb.TheVariants as verb
 use Rattle.alto_rows.specs.declared.key.Key.{Key}
 use Rattle.alto_rows.specs.declared.resource.Resource.{Resource}
 use Rattle.alto_rows.specs.Good.{AreGood}
 use Rattle.alto_rows.specs.Ids.{resource_named}
+use Rattle.alto_rows.specs.Order.{key_cmp}
 use Rattle.alto_rows.specs.Rows.{Rows}
 use Rattle.alto_rows.specs.Versions.{is_declared}
 use Rattle.alto_book.specs.Book.{Book, rows_of}
@@ -21,7 +24,9 @@ use Rattle.edge_patch.specs.Documents as documents
 use Rattle.edge_patch.specs.declared.form.PatchForm.{PatchForm}
 use Rattle.tips_graph.specs.declared.status.EdgeStatus.{EdgeStatus}
 use Rattle.tips_graph.specs.declared.status.EdgeStatus.TheVariants.{Absent, Gone, Awaited, Ahead, Here}
-use Rattle.tips_graph.specs.Graph.{GraphData, span_of, status_of}
+use Rattle.tips_graph.specs.Graph.{GraphData, Push, is_step_here, pushes_between, span_of, status_of}
+use Rattle.tips_graph.specs.Keys.{key_set}
+use Rattle.tips_graph.proofs.KeySetLemmas.{key_set_sorted}
 use Rattle.tips_graph.specs.Graph.{rows_at as graph_rows}
 use Rattle.alto_answers.specs.declared.outcome.Answer.{Answer}
 use Rattle.alto_answers.specs.declared.outcome.Answer.TheVariants as answer
@@ -181,3 +186,14 @@ pub edges_bring_none : (verb : Verb) (book : Book) (form : PatchForm) (resource 
 edges_bring_none verb.Get book form resource i j = named_brings book (resource_named (rows_of book) resource) form i j
 edges_bring_none verb.Post book form resource i j = tt
 edges_bring_none verb.Other book form resource i j = tt
+
+-- the keys of an edge rise
+pub span_rises : (graph : GraphData) (i j : ℕ) (keys : List Key) → Some keys ≡ span_of graph i j → IsStrictlySortedBy key_cmp keys
+span_rises graph i j keys found = by (is_step_here (status_of graph i j) i) found
+  where
+    between : List Key
+    between = flat_map (λ (push : Push). push.keys) (pushes_between graph i j)
+
+    by : (b : Bool) → Some keys ≡ (if b then Some (key_set between) else None) → IsStrictlySortedBy key_cmp keys
+    by true is = let same : keys ≡ key_set between = cc in subst (IsStrictlySortedBy key_cmp) (sym same) (key_set_sorted between)
+    by false is = cc

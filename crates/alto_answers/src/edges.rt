@@ -1,8 +1,10 @@
 //! Edges of updates graphs, asked for by their numbers (RFC 9569, section 7).
 ghost use Rattle.std.specs.Prelude.{◌≡◌, ℕ, true, IfOk};
+ghost use Rattle.std.specs.List.Sorted.{IsStrictlySortedBy};
 ghost use Rattle.std.specs.Str.Parse.{digits_value};
 ghost use Rattle.alto_rows.specs.Good.{AreGood};
 ghost use Rattle.alto_rows.specs.Ids.{resource_named};
+ghost use Rattle.alto_rows.specs.Order.{key_cmp};
 ghost use Rattle.alto_rows.specs.Versions.{is_declared};
 ghost use Rattle.alto_book.specs.Book.{Book, rows_of};
 ghost use Rattle.alto_book.specs.Legal.{IsLegal};
@@ -24,11 +26,11 @@ use crate::outcome::Answer;
 use crate::target::segment;
 use crate::types::{JSON_PATCH, MERGE_PATCH, media_type};
 use alto_http::{Request, Verb, is_decimal};
-use alto_replies::{Reply, document_reply, gone, not_found, ok_reply, too_early, wrong_method};
+use alto_replies::{Reply, gone, not_found, ok_reply, too_early, wrong_method};
 use alto_rows::{Key, Resource, RowStore, find_resource};
 use alto_versions::Front;
-use edge_patch::{PatchForm, document_text, json_edge, merge_edge};
-use json_patch::ops_tree;
+use edge_patch::{PatchForm, document_text};
+use edge_text::{merge_text, operations_text};
 use std::alloc::{AllocError, Global};
 use tips_graph::{EdgeStatus, Graph};
 
@@ -155,7 +157,7 @@ fn edge_reply<R: RowStore>(
     patch_reply(alloc, resource, form, &**before, &**rows, keys)
 }
 
-/// The patch that leads from rows to others which differ at these keys.
+/// The patch that leads from rows to others which differ at these keys, which rise.
 fn patch_reply<R: RowStore>(
     alloc: Global,
     resource: &Resource,
@@ -167,18 +169,19 @@ fn patch_reply<R: RowStore>(
     requires good_before { AreGood (R.rows before.now) }
     requires good { AreGood (R.rows after.now) }
     requires declared { is_declared (R.rows after.now) resource.now ≡ true }
+    requires rising { IsStrictlySortedBy key_cmp keys.now }
     ensures has_bytes { IfOk result IsReply }
     ensures reply { IfOk result (λ reply. reply
         ≡ content_reply resource.now (patch form resource.now (R.rows before.now) (R.rows after.now) keys.now)) }
 {
     match form {
         PatchForm::Merge => {
-            let change = merge_edge(alloc, resource, after, keys)?;
-            document_reply(alloc, MERGE_PATCH, &change)
+            let change = merge_text(alloc, resource, after, keys)?;
+            ok_reply(alloc, MERGE_PATCH, change)
         }
         PatchForm::Operations => {
-            let changes = json_edge(alloc, resource, before, after, keys)?;
-            document_reply(alloc, JSON_PATCH, &ops_tree(alloc, &changes)?)
+            let changes = operations_text(alloc, resource, before, after, keys)?;
+            ok_reply(alloc, JSON_PATCH, changes)
         }
     }
 }

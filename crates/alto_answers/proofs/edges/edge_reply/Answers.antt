@@ -1,6 +1,6 @@
 use Rattle.std.proofs.Common.{ap, ◌∙◌}
 use Rattle.std.proofs.lemmas.Result.{IfOk-weaker}
-use Rattle.alto_answers.proofs.EdgeLemmas.{here_too, low_of_span, patched, rows_began, rows_begin, rows_good, rows_good_before, rows_here, rows_there, whole_document}
+use Rattle.alto_answers.proofs.EdgeLemmas.{here_too, low_of_span, patched, rows_began, rows_begin, rows_good, rows_good_before, rows_here, rows_there, span_rises, whole_document}
 use Rattle.alto_answers.proofs.edges.edge_reply.Goals as goal
 
 pub unreachable-requires : goal.unreachable-requires
@@ -46,6 +46,9 @@ pub patch_reply-requires-clause-declared : goal.patch_reply-requires-clause-decl
 patch_reply-requires-clause-declared g c =
     let rows = rows_here _ _ _ _ _ _ c.requires.1 c.requires.2 c.in-Some.ensures in
     (rows_good _ _ _ _ _ _ c.requires.1 c.requires.2 (ap g.R.RowStore.rows c.deref-3.ensures ∙ rows)).1
+
+pub patch_reply-requires-clause-rising : goal.patch_reply-requires-clause-rising
+patch_reply-requires-clause-rising g c = span_rises c.args.graph.now c.args.i c.args.j _ c.in-Some-span.ensures
 
 pub returns-clause-reply : goal.returns-clause-reply
 returns-clause-reply g c =
