@@ -1,5 +1,6 @@
 //! A drill, which shows on any machine that each edge of an updates graph leads on: it accepts a book of batches that a
-//! number makes, makes each edge that is available in both forms of patch, applies it, and counts what differs.
+//! number makes, reads each edge from 0 and makes each other one in both forms of patch, applies it, and counts what
+//! differs.
 //!
 //! ```text
 //! number ── draws ──▶ choice ── edits ──▶ import ── Desk::edit ──▶ Front ── Graph::status, span ──▶ edges

@@ -12,8 +12,8 @@ use Rattle.alto_doors.specs.declared.counts.DoorCounts.{DoorCounts}
 abbrev pub AllServed : ℕ → DoorCounts → DoorCounts → Type 0
 AllServed count counts counts' = counts'.served ≡ risen counts.served count
 
--- what becomes of a book that is served through so many doors. 0: each was served to its end. 6: so too, and one has counted
--- a fault. 1: out of memory. Nothing else
+-- what becomes of a book that is served through so many doors. 0 or 6: each was served to its end.
+-- 1: out of memory. Nothing else
 abbrev pub EndsDoors : ℕ → ℕ → DoorCounts → DoorCounts → Type 0
 EndsDoors count result counts counts' = (((result ≡ 0) ⊎ (result ≡ 6)) × AllServed count counts counts') ⊎ (result ≡ 1)
 
