@@ -101,7 +101,7 @@ def killed(process, delay, requests):
     killer = threading.Timer(delay, process.kill)
     killer.start()
     count = 0
-    with process, contextlib.suppress(BrokenPipeError):
+    with contextlib.suppress(BrokenPipeError), process:
         process.stdin.write(b"".join(requests))
         process.stdin.flush()
         while count < len(requests) and reply(process.stdout):
