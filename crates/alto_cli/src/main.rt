@@ -5,15 +5,12 @@
 mod console;
 mod system_clock;
 mod telling_doors;
-#[cfg(test)]
-mod tests;
-mod thread_bell;
 mod words;
 
 use alto_doors::Doors;
 use alto_files::FileVault;
 use alto_http::Link;
-use alto_hub::Bell;
+use alto_hub::{Bell, ThreadBell};
 use alto_keeper::Vault;
 use alto_run::run;
 use alto_serve::Clock;
@@ -26,7 +23,6 @@ use std::sync::Wait;
 use std::thread::Threads;
 use system_clock::SystemClock;
 use telling_doors::TellingDoors;
-use thread_bell::ThreadBell;
 use words::words_of;
 
 fn main(rt: HostRuntime) -> ExitCode {

@@ -25,8 +25,6 @@ mod piping;
 mod saying;
 mod showing;
 mod store;
-#[cfg(test)]
-mod tests;
 mod trimming;
 
 pub use alto_serve::{Clock, FixedClock};

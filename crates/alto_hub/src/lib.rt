@@ -21,6 +21,7 @@ mod place;
 mod published;
 mod seat;
 mod submission;
+mod thread_bell;
 mod view;
 mod visitor;
 
@@ -29,6 +30,4 @@ pub use hub::Hub;
 pub use mark::{Naming, NewHistory};
 pub use place::Place;
 pub use seat::Seat;
-
-#[cfg(test)]
-mod tests;
+pub use thread_bell::ThreadBell;

@@ -12,6 +12,8 @@ mod bodies;
 #[cfg(test)]
 mod constraints;
 #[cfg(test)]
+mod crashes;
+#[cfg(test)]
 mod desks;
 #[cfg(test)]
 mod doors;
@@ -19,6 +21,8 @@ mod doors;
 mod forms;
 #[cfg(test)]
 mod graphs;
+#[cfg(test)]
+mod keepers;
 #[cfg(test)]
 mod limits;
 #[cfg(test)]

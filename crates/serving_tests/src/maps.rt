@@ -1,5 +1,5 @@
 //! Cost maps, property maps and look-ups, by their replies.
-use crate::tests::Talk;
+use crate::talks::Talk;
 use std::alloc::{AllocError, Global};
 use std::test::Fail;
 

@@ -1,8 +1,4 @@
-mod commands;
-mod imports;
-mod maps;
-mod queries;
-
+//! Connections over a store in memory, by what is asked and answered.
 use alto_answers::{Place, Query, Routes, Side};
 use alto_book::EditFault;
 use alto_commands::{init, pipe};
@@ -148,13 +144,13 @@ maps/metro | none | none
 /tips/metro/up/0/1 | none | none";
 
 /// What stands before a bar in a line, and what stands behind it.
-fn parted(line: &str) -> (&str, &str) {
+pub fn parted(line: &str) -> (&str, &str) {
     let (part, rest) = line.split_once('|').unwrap_or((line, ""));
     (part.trim(), rest)
 }
 
 /// A request: its method and target, its fields and its body.
-fn request(alloc: Global, start: &str, fields: &str, body: &str) -> Result<String, AllocError> {
+pub fn request(alloc: Global, start: &str, fields: &str, body: &str) -> Result<String, AllocError> {
     let fields = fields.replace(alloc, "~", "\r\n")?;
     let body = body.replace(alloc, "~", "\n")?;
     let length = body.len();
@@ -162,7 +158,7 @@ fn request(alloc: Global, start: &str, fields: &str, body: &str) -> Result<Strin
 }
 
 /// A reply: its status, its media type and perhaps a further field, and its body.
-fn reply(alloc: Global, status: &str, kind: &str, body: &str) -> Result<String, AllocError> {
+pub fn reply(alloc: Global, status: &str, kind: &str, body: &str) -> Result<String, AllocError> {
     let length = body.len();
     let (media_type, field) = kind.split_once('~').unwrap_or((kind, ""));
     let end = if field.is_empty() { "" } else { "\r\n" };
@@ -172,7 +168,7 @@ fn reply(alloc: Global, status: &str, kind: &str, body: &str) -> Result<String, 
 }
 
 /// A vault whose store `x` was begun with the epoch `e1` and the window 8.
-fn begun(alloc: Global) -> Result<MemVault, AllocError> {
+pub fn begun(alloc: Global) -> Result<MemVault, AllocError> {
     let mut vault = MemVault::new(alloc);
     let mut link = MemLink::new(alloc, &[], 100)?;
     let Ok(epoch) = Epoch::read(alloc, b"e1") else {
@@ -184,13 +180,13 @@ fn begun(alloc: Global) -> Result<MemVault, AllocError> {
 
 /// The bytes that a connection brings, and those that it is to be answered with.
 #[derive(Drop)]
-struct Talk {
+pub struct Talk {
     input: String,
     output: String,
 }
 
 impl Talk {
-    fn new(alloc: Global) -> Talk {
+    pub fn new(alloc: Global) -> Talk {
         Talk {
             input: String::new(alloc),
             output: String::new(alloc),
@@ -198,7 +194,7 @@ impl Talk {
     }
 
     /// Adds the request and the reply of a line.
-    fn add(&mut self, alloc: Global, line: &str) -> Result<(), AllocError> {
+    pub fn add(&mut self, alloc: Global, line: &str) -> Result<(), AllocError> {
         let (start, rest) = parted(line);
         let (fields, rest) = parted(rest);
         let (body, rest) = parted(rest);
@@ -211,7 +207,7 @@ impl Talk {
     }
 
     /// Adds the request of a line that ends with it, and a reply of this media type and body.
-    fn add_reply(
+    pub fn add_reply(
         &mut self,
         alloc: Global,
         line: &str,
@@ -230,7 +226,7 @@ impl Talk {
     }
 
     /// Adds the lines of a text.
-    fn add_lines(&mut self, alloc: Global, text: &str) -> Result<(), AllocError> {
+    pub fn add_lines(&mut self, alloc: Global, text: &str) -> Result<(), AllocError> {
         for line in text.lines() {
             self.add(alloc, line)?;
         }
@@ -238,7 +234,7 @@ impl Talk {
     }
 
     /// Whether the console is answered so, read by these sizes and with so many turns, and the status is 0.
-    fn is_answered(
+    pub fn is_answered(
         &self,
         alloc: Global,
         turns: u32,

@@ -1,5 +1,5 @@
 //! Connections with long imports, and with many.
-use crate::tests::Talk;
+use crate::talks::Talk;
 use std::alloc::{AllocError, Global};
 use std::test::Fail;
 

@@ -1,4 +1,4 @@
-use crate::{Form, import, init, pipe, show, trim};
+use alto_commands::{Form, import, init, pipe, show, trim};
 use alto_http::MemLink;
 use alto_keeper::{Keeper, MemVault, Vault};
 use alto_names::{Epoch, ImportId};

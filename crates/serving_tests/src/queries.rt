@@ -1,6 +1,6 @@
 //! Endpoint costs, filtered property maps, path vectors and the directory, by their replies.
-use crate::tests::Talk;
-use crate::tests::maps::SCRIPT;
+use crate::maps::SCRIPT;
+use crate::talks::Talk;
 use std::alloc::{AllocError, Global};
 use std::test::Fail;
 

@@ -1,9 +1,9 @@
 ghost use Rattle.std.specs.Prelude.{◌≡◌};
 ghost use Rattle.alto_desk.specs.Records.{Backs};
 
-use super::*;
 use alto_desk::{Command, Desk, desk_in_memory};
 use alto_edits::Edit;
+use alto_hub::{Hub, IdleBell, Naming, NewHistory, Place, Seat};
 use alto_keeper::{Keeper, MemKeeper};
 use alto_names::{Epoch, ImportId, NetName};
 use alto_serve::{Looks, Office};

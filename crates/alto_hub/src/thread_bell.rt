@@ -1,4 +1,4 @@
-use alto_hub::Bell;
+use crate::bell::Bell;
 use std::rt;
 use std::sync::{Condvar, Mutex, Wait};
 use std::time::Duration;

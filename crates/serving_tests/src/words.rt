@@ -1,10 +1,9 @@
 //! Command lines, each a run of the program.
-use super::{begun, reply, request};
-use crate::thread_bell::ThreadBell;
+use crate::talks::{begun, parted, reply, request};
 use alto_answers::Side;
 use alto_doors::{Doors, MemDoors};
 use alto_http::{Link, MemLink};
-use alto_hub::{Bell, IdleBell};
+use alto_hub::{Bell, IdleBell, ThreadBell};
 use alto_keeper::{MemVault, Vault};
 use alto_run::run;
 use alto_serve::{Clock, FixedClock};
@@ -86,9 +85,9 @@ fn words_ask_for_commands(rt: HostRuntime) -> Result<(), Fail> {
     let mut vault = MemVault::new(alloc);
     let mut doors = MemDoors::new(alloc);
     for line in LINES.lines() {
-        let (words, rest) = super::parted(line);
-        let (input, rest) = super::parted(rest);
-        let (status, printed) = super::parted(rest);
+        let (words, rest) = parted(line);
+        let (input, rest) = parted(rest);
+        let (status, printed) = parted(rest);
         let input = input.replace(alloc, "~", "\n")?;
         let printed = printed.trim().replace(alloc, "~", "\n")?;
         let (found, link) = ran(
