@@ -29,7 +29,6 @@ use Rattle.tips_graph.specs.Keys.{key_set}
 use Rattle.tips_graph.proofs.KeySetLemmas.{key_set_sorted}
 use Rattle.tips_graph.specs.Graph.{rows_at as graph_rows}
 use Rattle.alto_answers.specs.declared.outcome.Answer.{Answer}
-use Rattle.alto_answers.specs.declared.outcome.Answer.TheVariants as answer
 use Rattle.alto_answers.specs.Answers.{BringsEdits}
 use Rattle.alto_answers.specs.Edges.{content_reply, edge_by, edge_number, edge_reply, edges_answer, named_edge, numbered_edge}
 use Rattle.alto_replies.specs.Replies.{document_reply}

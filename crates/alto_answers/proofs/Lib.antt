@@ -5,6 +5,7 @@ pub mod EdgeNumberLemmas
 pub mod HeldLemmas
 pub mod LookupLemmas
 pub mod NamedLemmas
+pub mod NewestLemmas
 pub mod SeenLemmas
 pub mod UniqueLemmas
 pub mod ViewLemmas

@@ -1,5 +1,5 @@
 -- The resource that a text names, in the rows of a version.
-use Rattle.std.proofs.Common.{◌≡◌, ℕ, Bool, true, false, ◌||◌, List, [], ◌∷◌, Option, Some, None, option_map, if◌then◌else◌, refl, sym, ap, subst, ◌∙◌}
+use Rattle.std.proofs.Common.{◌≡◌, ℕ, Bool, true, false, List, [], ◌∷◌, Some, None, option_map, refl, sym, ap, subst, ◌∙◌}
 use Rattle.std.specs.BTreeMap.{is_at}
 use Rattle.std.specs.List.{find, list_any}
 use Rattle.std.specs.Ordering.{is_eq}
@@ -12,12 +12,9 @@ use Rattle.alto_rows.specs.Versions.{is_declared, resources_of}
 use Rattle.alto_rows.proofs.OrderLemmas.{resource_cmp_itself}
 use Rattle.alto_rows.proofs.ResourceLemmas.{or_true, resources_found}
 use Rattle.alto_book.specs.Book.{Book, rows_of}
-use Rattle.alto_book.specs.Legal.{IsLegal}
-use Rattle.alto_book.specs.NumberLaws.{TellsNumbers}
 use Rattle.alto_book.specs.Numbers.{updates_graph}
 use Rattle.alto_book.proofs.StateLemmas.{good_rows}
 use Rattle.alto_versions.specs.Front.{Version, StandsFor, graph_in}
-use Rattle.tips_graph.specs.Graph.{GraphData}
 use Rattle.alto_answers.specs.Graphs.{IsVersion}
 use Rattle.alto_answers.specs.Tips.{graph_named}
 use Rattle.alto_answers.proofs.EdgeLemmas.{graph_in_version, graph_none}

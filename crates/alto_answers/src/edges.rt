@@ -1,5 +1,5 @@
 //! Edges of updates graphs, asked for by their numbers (RFC 9569, section 7).
-ghost use Rattle.std.specs.Prelude.{◌≡◌, ℕ, true, IfOk};
+ghost use Rattle.std.specs.Prelude.{◌≡◌, ℕ, true, IfOk, Some};
 ghost use Rattle.std.specs.List.Sorted.{IsStrictlySortedBy};
 ghost use Rattle.std.specs.Str.Parse.{digits_value};
 ghost use Rattle.alto_rows.specs.Good.{AreGood};
@@ -12,6 +12,7 @@ ghost use Rattle.alto_book.specs.NumberLaws.{TellsNumbers};
 ghost use Rattle.alto_book.specs.Numbers.{status_at};
 ghost use Rattle.alto_book.specs.Walks.{patch};
 ghost use Rattle.alto_versions.specs.Front.{StandsFor};
+ghost use Rattle.tips_graph.specs.Graph.{last_of, status_of};
 ghost use Rattle.tips_graph.specs.declared.status.EdgeStatus.TheVariants.{Here};
 ghost use Rattle.alto_answers.specs.Accept.{patch_form};
 ghost use Rattle.alto_answers.specs.Answers.{HasBytes};
@@ -22,6 +23,7 @@ ghost use Rattle.alto_answers.specs.Graphs.{IsVersion};
 ghost use Rattle.alto_answers.specs.Target.{segment};
 
 use crate::accept::patch_form;
+use crate::maps::newest_reply;
 use crate::outcome::Answer;
 use crate::target::segment;
 use crate::types::{JSON_PATCH, MERGE_PATCH, media_type};
@@ -81,7 +83,23 @@ fn named_edge<R: RowStore>(
     let Some(graph) = front.graph(&of) else {
         unreachable!();
     };
-    numbered_edge(alloc, graph, of, form, edge_number(i), edge_number(j))
+    let (i, j) = (edge_number(i), edge_number(j));
+    if is_newest(graph, i, j) {
+        return Ok(Answer::Reply(newest_reply(alloc, front, &of)?));
+    }
+    numbered_edge(alloc, graph, of, form, i, j)
+}
+
+/// Whether an edge is the one from 0 to the last number: it holds the document of the rows now, whose text the version
+/// keeps.
+fn is_newest<R: RowStore>(graph: &Graph<R>, i: Option<u64>, j: Option<u64>) -> bool
+    ensures { result ≡ true → (i ≡ Some 0) × (j ≡ Some (last_of graph.now))
+        × (status_of graph.now 0 (last_of graph.now) ≡ Here) }
+{
+    match (i, j) {
+        (Some(0), Some(j)) => j == graph.last() && graph.status(0, j) == EdgeStatus::Here,
+        _ => false,
+    }
 }
 
 /// The edge between two numbers, if they are numbers.

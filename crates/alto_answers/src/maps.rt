@@ -7,6 +7,9 @@ ghost use Rattle.alto_rows.specs.Versions.{is_declared};
 ghost use Rattle.edge_patch.specs.Documents.{document};
 ghost use Rattle.alto_answers.specs.Answers.{map_reply, maps_answer};
 ghost use Rattle.alto_answers.specs.Target.{segment};
+ghost use Rattle.alto_answers.specs.Types.{media_type_of};
+ghost use Rattle.alto_replies.specs.Replies.{document_reply};
+ghost use Rattle.alto_replies.specs.Reply.{IsReply};
 
 use crate::outcome::Answer;
 use crate::target::segment;
@@ -42,9 +45,23 @@ fn map_reply<R: RowStore>(alloc: Global, front: &Front<R>, text: &[u8]) -> Resul
     ensures { IfOk result (λ reply. reply ≡ map_reply front.now.rows (resource_named front.now.rows text.now)) }
 {
     match find_resource(alloc, &*front.rows, text)? {
-        Some(of) => ok_reply(alloc, media_type(&of), document_of(alloc, front, &of)?),
+        Some(of) => newest_reply(alloc, front, &of),
         None => not_found(alloc, "resource"),
     }
+}
+
+/// The reply with the document of a declared resource.
+pub(crate) fn newest_reply<R: RowStore>(
+    alloc: Global,
+    front: &Front<R>,
+    of: &Resource,
+) -> Result<Reply, AllocError>
+    requires { is_declared front.now.rows of.now ≡ true }
+    ensures has_bytes { IfOk result IsReply }
+    ensures reply { IfOk result (λ reply. reply
+        ≡ document_reply (media_type_of of.now) (document of.now front.now.rows)) }
+{
+    ok_reply(alloc, media_type(of), document_of(alloc, front, of)?)
 }
 
 /// The text of the document of a declared resource, which the version keeps.

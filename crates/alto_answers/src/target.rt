@@ -18,8 +18,9 @@ pub(crate) fn path_of(target: &[u8]) -> &[u8]
 pub(crate) fn segment(alloc: Global, path: &[u8], place: usize) -> Result<Vec<u8>, AllocError>
     ensures { IfOk result (λ bytes. bytes.items ≡ segment path.now place) }
 {
-    let mut bytes = Vec::new(alloc);
-    percent_decode(raw_segment(path, place)).append_to(&mut bytes)?;
+    let raw = raw_segment(path, place);
+    let mut bytes = Vec::with_capacity(alloc, raw.len())?;
+    percent_decode(raw).append_to(&mut bytes)?;
     Ok(bytes)
 }
 

@@ -4,8 +4,8 @@ use Rattle.alto_versions.specs.Front.{Version}
 use Rattle.alto_answers.proofs.NamedLemmas.{named_declared}
 use Rattle.alto_answers.proofs.maps.map_reply.Goals as goal
 
-pub document_of-requires : goal.document_of-requires
-document_of-requires g c =
+pub newest_reply-requires : goal.newest_reply-requires
+newest_reply-requires g c =
     let rows = ap g.R.RowStore.rows c.deref.ensures ∙ ap (λ (version : Version). version.rows) c.front.view_is in
     named_declared c.args.front.now.rows c.args.text.now c.in-Some.of (sym c.in-Some.is ∙ rw rows at c.in_ok-of.ensures)
 
