@@ -5,3 +5,5 @@ pub mod MergeLemmas
 pub mod WrittenLemmas
 pub mod OperationLemmas
 pub mod ChangeLemmas
+pub mod PathLemmas
+pub mod TurnLemmas

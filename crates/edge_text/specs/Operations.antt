@@ -64,6 +64,11 @@ on_cost dst old (Some n) = record { path = dst ∷ []; action = add (number (uns
 on_cost dst (Some old) None = record { path = dst ∷ []; action = remove } ∷ []
 on_cost dst None None = []
 
+-- the cost before, where there is none after
+abbrev pub cost_gone : Option ℕ → Option ℕ → Option ℕ
+cost_gone old (Some n) = None
+cost_gone old None = old
+
 -- the operation on a member of a group that stood and stands, if there is one
 abbrev pub on_change : Face → Face → Bool × Bool → Name → Name → List Operation
 on_change before after both src dst =

@@ -6,6 +6,7 @@ mod costs;
 mod merge;
 mod operations;
 mod pairs;
+mod paths;
 mod texts;
 
 pub use texts::{merge_text, operations_text};

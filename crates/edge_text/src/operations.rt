@@ -1,28 +1,28 @@
 //! The operations on a cost map (RFC 6902), straight to bytes.
-ghost use Rattle.std.specs.Prelude.{◌≡◌, ◌∷◌, [], None, Some, IfOk, OnOk, codes, map, option_map, string_bytes};
+ghost use Rattle.std.specs.Prelude.{◌≡◌, true, None, Some, IfOk, OnOk, codes, is_some, map, option_map};
 ghost use Rattle.std.specs.List.Sorted.{IsStrictlySortedBy};
 ghost use Rattle.serde_json.specs.Written.{compact_text};
-ghost use Rattle.json_tree.specs.Pointer.{pointer_text};
 ghost use Rattle.json_patch.specs.OperationList.{operations_data};
 ghost use Rattle.alto_rows.specs.Good.{AreGood};
 ghost use Rattle.alto_rows.specs.Order.{key_cmp};
 ghost use Rattle.alto_rows.specs.Rows.{value_of};
 ghost use Rattle.alto_maps.specs.OperationForm.{on_meta, operation_form, under};
+ghost use Rattle.alto_maps.specs.Shape.{stands};
 ghost use Rattle.alto_maps.specs.Writing.{AddsValue};
 ghost use Rattle.net_docs.specs.NetworkMap.{dependent_tags, version_tag};
 ghost use Rattle.cost_docs.specs.CostMap.{cost_face, cost_place, cost_shape, number_at};
 ghost use Rattle.cost_docs.specs.Writing.{AddsTokens};
 ghost use Rattle.edge_text.specs.Operations as spec;
-ghost use Rattle.edge_text.specs.Operations.{addition_tokens, are_both, on_cost, on_pair, on_pairs, on_turn, on_whole};
-ghost use Rattle.edge_text.specs.Operations.{removal_tokens, standing, tokens_of, turned_behind};
+ghost use Rattle.edge_text.specs.Operations.{addition_tokens, are_both, both_standing, cost_gone, on_cost, on_pair};
+ghost use Rattle.edge_text.specs.Operations.{on_pairs, on_whole, removal_tokens, tokens_of, turned_behind};
 ghost use Rattle.edge_text.specs.Pairs.{pair_in, pairs_of};
 
 use crate::costs::{has_cost_from, number_at, write_costs};
 use crate::pairs::has_version;
+use crate::paths::{group_path, pair_path};
 use alto_names::{Metric, NetName, PidName};
 use alto_rows::{Key, Resource, RowStore};
 use json::Writer;
-use json_tree::{Name, pointer_string};
 use net_docs::{tag, write_text};
 use std::alloc::{AllocError, Global};
 use std::marker::Model;
@@ -52,8 +52,16 @@ struct Maps<'a, R: RowStore> {
     metric: &'a Metric,
 }
 
+/// The costs of a pair before and after a change.
+#[derive(Clone, Copy)]
+struct Costs {
+    before: Option<u64>,
+    after: Option<u64>,
+}
+
 /// The text of what leads from the cost map of some rows to that of others, which differ at these keys, which rise.
-/// Costs up to two searches for each key, and two for each source.
+/// Costs up to two searches for each key, and two for each source. Where costs changed and none came or went, it is one
+/// for each key, and one more for each source.
 pub(crate) fn cost_operations_text<R: RowStore>(
     alloc: Global,
     before: &R,
@@ -174,7 +182,8 @@ fn write_pairs<R: RowStore>(
     Ok(())
 }
 
-/// Writes what the pair of a key brings, where it is a cost of the metric.
+/// Writes what the pair of a key brings, where it is a cost of the metric. Searches for the costs of the pair, and for
+/// others of its source where these don't tell whether its group stood and stands.
 fn write_key<R: RowStore>(
     alloc: Global,
     maps: &Maps<'_, R>,
@@ -195,45 +204,80 @@ fn write_key<R: RowStore>(
 {
     match key {
         Key::Cost(of, kind, source, destination) if maps.net == of && maps.metric == kind => {
-            if turn_to(alloc, maps, source, turned, out)? {
-                write_change(alloc, maps, key, source, destination, out)
-            } else {
-                Ok(())
+            match known_of(turned, source) {
+                Some(true) => write_change(alloc, source, destination, change_of(maps, key), out),
+                Some(false) => Ok(()),
+                None => {
+                    let costs = costs_of(maps, key);
+                    if turn_to(alloc, maps, source, costs, turned, out)? {
+                        write_change(alloc, source, destination, costs, out)
+                    } else {
+                        Ok(())
+                    }
+                }
             }
         }
         _ => Ok(()),
     }
 }
 
-/// Writes the operation on the group of a source as a whole, if there is one, unless it was turned to. Tells whether
-/// the group stood and stands.
+/// The costs of the pair of a key. Two searches.
+fn costs_of<R: RowStore>(maps: &Maps<'_, R>, key: &Key) -> Costs
+    ensures before { result.before ≡ number_at (value_of (R.rows maps.now.before.now) key.now) }
+    ensures after { result.after ≡ number_at (value_of (R.rows maps.now.after.now) key.now) }
+{
+    Costs {
+        before: number_at(maps.before.get(key)),
+        after: number_at(maps.after.get(key)),
+    }
+}
+
+/// The same, without the cost before where there is one after, which tells all of the change. One search there.
+fn change_of<R: RowStore>(maps: &Maps<'_, R>, key: &Key) -> Costs
+    ensures before { result.before
+        ≡ cost_gone (number_at (value_of (R.rows maps.now.before.now) key.now)) result.after }
+    ensures after { result.after ≡ number_at (value_of (R.rows maps.now.after.now) key.now) }
+{
+    let after = number_at(maps.after.get(key));
+    let before = match after {
+        Some(_) => None,
+        None => number_at(maps.before.get(key)),
+    };
+    Costs { before, after }
+}
+
+/// Turns to a source: writes the operation on its group as a whole, if there is one, and tells whether the group stood
+/// and stands.
 fn turn_to<R: RowStore>(
     alloc: Global,
     maps: &Maps<'_, R>,
     source: &PidName,
+    costs: Costs,
     turned: &mut Option<Turned>,
     out: &mut Writer,
 ) -> Result<bool, AllocError>
     requires good { AreGood (R.rows maps.now.after.now) }
-    ensures tokens { OnOk result (AddsTokens (tokens_of (map (under (codes "cost-map")) (on_turn
+    requires stood { is_some costs.before ≡ true
+        → stands (cost_face maps.now.net.now maps.now.metric.now (R.rows maps.now.before.now)) source.now ≡ true }
+    requires stands { is_some costs.after ≡ true
+        → stands (cost_face maps.now.net.now maps.now.metric.now (R.rows maps.now.after.now)) source.now ≡ true }
+    ensures tokens { OnOk result (AddsTokens (tokens_of (map (under (codes "cost-map")) (on_whole
+        (cost_face maps.now.net.now maps.now.metric.now (R.rows maps.now.after.now)) source.now (both_standing
         (cost_face maps.now.net.now maps.now.metric.now (R.rows maps.now.before.now))
-        (cost_face maps.now.net.now maps.now.metric.now (R.rows maps.now.after.now)) turned.old source.now)))
+        (cost_face maps.now.net.now maps.now.metric.now (R.rows maps.now.after.now)) source.now))))
         out.old out.new) }
     ensures turned { OnOk result (turned.new ≡ Some (
       source.now,
-      standing
+      both_standing
           (cost_face maps.now.net.now maps.now.metric.now (R.rows maps.now.before.now))
-          (cost_face maps.now.net.now maps.now.metric.now (R.rows maps.now.after.now)) turned.old source.now,
+          (cost_face maps.now.net.now maps.now.metric.now (R.rows maps.now.after.now)) source.now,
     )) }
-    ensures both { IfOk result (λ both. both ≡ are_both (standing
+    ensures both { IfOk result (λ both. both ≡ are_both (both_standing
         (cost_face maps.now.net.now maps.now.metric.now (R.rows maps.now.before.now))
-        (cost_face maps.now.net.now maps.now.metric.now (R.rows maps.now.after.now)) turned.old source.now)) }
+        (cost_face maps.now.net.now maps.now.metric.now (R.rows maps.now.after.now)) source.now)) }
 {
-    if let Some(both) = known_of(turned, source) {
-        return Ok(both);
-    }
-    let stood = has_cost_from(maps.before, maps.net, maps.metric, source)?;
-    let stands = has_cost_from(maps.after, maps.net, maps.metric, source)?;
+    let stood = has_group(maps.before, maps, source, costs.before)?;
+    let stands = has_group(maps.after, maps, source, costs.after)?;
     write_whole(alloc, maps, source, stood, stands, out)?;
     *turned = Some(Turned {
         source: source.clone()?,
@@ -241,6 +285,25 @@ fn turn_to<R: RowStore>(
         stands,
     });
     Ok(stood && stands)
+}
+
+/// Whether the group of a source stands in some rows. So it does where one of its costs there is known, and else a
+/// search tells.
+fn has_group<R: RowStore>(
+    rows: &R,
+    maps: &Maps<'_, R>,
+    source: &PidName,
+    known: Option<u64>,
+) -> Result<bool, AllocError>
+    requires { is_some known ≡ true
+        → stands (cost_face maps.now.net.now maps.now.metric.now (R.rows rows.now)) source.now ≡ true }
+    ensures { IfOk result (λ told. told
+        ≡ stands (cost_face maps.now.net.now maps.now.metric.now (R.rows rows.now)) source.now) }
+{
+    match known {
+        Some(_) => Ok(true),
+        None => has_cost_from(rows, maps.net, maps.metric, source),
+    }
 }
 
 /// Whether the group of a source stood and stands, where it was turned to.
@@ -280,24 +343,22 @@ fn write_whole<R: RowStore>(
 
 /// Writes the operation on the cost of a pair, if there is one: it is added where it is there, and removed where it was
 /// there alone.
-fn write_change<R: RowStore>(
+fn write_change(
     alloc: Global,
-    maps: &Maps<'_, R>,
-    key: &Key,
     source: &PidName,
     destination: &PidName,
+    costs: Costs,
     out: &mut Writer,
 ) -> Result<(), AllocError>
-    ensures { OnOk result (AddsTokens (tokens_of (map (under (codes "cost-map")) (map (under source.now) (on_cost
-        destination.now (number_at (value_of (R.rows maps.now.before.now) key.now))
-        (number_at (value_of (R.rows maps.now.after.now) key.now)))))) out.old out.new) }
+    ensures { OnOk result (AddsTokens (tokens_of (map (under (codes "cost-map")) (map (under source.now)
+        (on_cost destination.now costs.before costs.after)))) out.old out.new) }
 {
-    if let Some(cost) = number_at(maps.after.get(key)) {
+    if let Some(cost) = costs.after {
         begin_addition(pair_path(alloc, source, destination)?.as_str(), out)?;
         out.u64(cost)?;
         return out.end_object();
     }
-    if number_at(maps.before.get(key)).is_some() {
+    if costs.before.is_some() {
         return write_removal(pair_path(alloc, source, destination)?.as_str(), out);
     }
     Ok(())
@@ -321,24 +382,4 @@ fn write_removal(path: &str, out: &mut Writer) -> Result<(), AllocError>
     write_text(out, "op", "remove")?;
     write_text(out, "path", path)?;
     out.end_object()
-}
-
-/// The pointer to the group of a source.
-fn group_path(alloc: Global, source: &PidName) -> Result<String, AllocError>
-    ensures { IfOk result (λ path. string_bytes path ≡ pointer_text (codes "cost-map" ∷ source.now ∷ [])) }
-{
-    let section = Name::from_str(alloc, "cost-map")?;
-    let source = Name::from_str(alloc, source.as_str())?;
-    pointer_string(alloc, &vec![in alloc; section, source]?)
-}
-
-/// The pointer to the cost of a pair.
-fn pair_path(alloc: Global, source: &PidName, destination: &PidName) -> Result<String, AllocError>
-    ensures { IfOk result (λ path. string_bytes path
-        ≡ pointer_text (codes "cost-map" ∷ source.now ∷ destination.now ∷ [])) }
-{
-    let section = Name::from_str(alloc, "cost-map")?;
-    let source = Name::from_str(alloc, source.as_str())?;
-    let destination = Name::from_str(alloc, destination.as_str())?;
-    pointer_string(alloc, &vec![in alloc; section, source, destination]?)
 }

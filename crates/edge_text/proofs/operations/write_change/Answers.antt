@@ -5,18 +5,16 @@ use Rattle.serde_json.specs.Data.{number, unsigned}
 use Rattle.json.specs.Token.{Token}
 use Rattle.json_tree.specs.Pointer.{pointer_text}
 use Rattle.json_patch.specs.Operations.{Operation}
-use Rattle.alto_rows.specs.Rows.{value_of}
 use Rattle.alto_maps.specs.Writing.{AddsValue}
-use Rattle.cost_docs.specs.CostMap.{number_at}
 use Rattle.cost_docs.specs.Writing.{AddsTokens}
 use Rattle.edge_text.specs.Operations.{addition_tokens, removal_tokens, tokens_of}
 use Rattle.edge_text.proofs.ChangeLemmas.{addition_written, cost_added, cost_removed, removed_told}
 use Rattle.edge_text.proofs.operations.write_change.Goals as goal
 
 pub returns-in-Some : goal.returns-in-Some
-returns-in-Some g c =
-    let old = number_at (value_of (g.R.RowStore.rows c.args.maps.now.before.now) c.args.key.now) in
-    let new = number_at (value_of (g.R.RowStore.rows c.args.maps.now.after.now) c.args.key.now) in
+returns-in-Some c =
+    let old = c.args.costs.before in
+    let new = c.args.costs.after in
     let path = codes "cost-map" ∷ c.args.source.now ∷ c.args.destination.now ∷ [] in
     let there : new ≡ Some c.in-Some.cost = search rules in
     let printed : c.as_str.result.now ≡ pointer_text path = search rules in
@@ -31,9 +29,9 @@ returns-in-Some g c =
     c.end_object.ensures.ok
 
 pub returns-then-is_some : goal.returns-then-is_some
-returns-then-is_some g c =
-    let old = number_at (value_of (g.R.RowStore.rows c.args.maps.now.before.now) c.args.key.now) in
-    let new = number_at (value_of (g.R.RowStore.rows c.args.maps.now.after.now) c.args.key.now) in
+returns-then-is_some c =
+    let old = c.args.costs.before in
+    let new = c.args.costs.after in
     let path = codes "cost-map" ∷ c.args.source.now ∷ c.args.destination.now ∷ [] in
     let gone : new ≡ None = search rules in
     let was : is_some old ≡ true = search rules in
