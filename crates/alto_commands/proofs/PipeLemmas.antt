@@ -30,7 +30,7 @@ served_from book ended first known time turns left out left' out' new served =
 
 -- a new office knows the book that it is over
 pub new_office : (book seen : Book) (looks waits faults : ℕ) → seen ≡ book → looks ≡ 0 → waits ≡ 0 → faults ≡ 0
-    → record { seen = seen; looks = looks; waits = waits; faults = faults; numbers = []; waited = None } ≡ at_first book
+    → record { seen = seen; looks = looks; waits = waits; faults = faults; looked_at = [] } ≡ at_first book
 new_office book seen looks waits faults same no_look no_wait no_fault = rw (same, no_look, no_wait, no_fault) refl
 
 -- a console is served

@@ -1,5 +1,5 @@
 -- What a place has seen of what a hub publishes, and its looks.
-use Rattle.std.specs.Prelude.{ℕ, ◌≡◌, List, [], ◌∷◌, ◌++◌, None}
+use Rattle.std.specs.Prelude.{ℕ, ◌≡◌, List, [], ◌∷◌, ◌++◌}
 use mathlib.Core.Option.{some}
 use mathlib.Core.List.{IsPrefix}
 use lib.ListN.{get_elem?}
@@ -44,6 +44,5 @@ known_at opening v waits faults = record {
   looks = v.looks;
   waits = waits;
   faults = faults;
-  numbers = v.numbers;
-  waited = None;
+  looked_at = v.numbers;
 }

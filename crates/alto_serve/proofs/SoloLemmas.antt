@@ -1,5 +1,5 @@
 -- The office over one desk.
-use Rattle.std.proofs.Common.{◌≡◌, ◌≢◌, ℕ, true, [], ◌∷◌, None, Result, Ok, Err, IfOk, IfErr, OnOk, OnErr, refl, sym, ◌∙◌, ap, inl, inr, All, arith}
+use Rattle.std.proofs.Common.{◌≡◌, ◌≢◌, ℕ, true, [], ◌∷◌, Result, Ok, Err, IfOk, IfErr, OnOk, OnErr, refl, sym, ◌∙◌, ap, inl, inr, All, arith}
 use Rattle.alto_edits.specs.Edits.{IsEdit}
 use Rattle.alto_book.specs.Acceptance.{accept}
 use Rattle.alto_book.specs.Book.{Book}
@@ -16,11 +16,12 @@ use Rattle.alto_serve.specs.Events.{looked, entered, submitted, waited, Known, I
 
 abbrev pub solo_known : Book → ℕ → ℕ → ℕ → Known
 solo_known book looks waits faults =
-    record { seen = book; looks = looks; waits = waits; faults = faults; numbers = []; waited = None }
+    record { seen = book; looks = looks; waits = waits; faults = faults; looked_at = [] }
 
 -- nobody else changes the book
 look_same : (book look : Book) → IsLegal book → look ≡ book → IsLook true book look
-look_same book look legal same = record { legal = rw same legal; grown = rw same (grown_itself book); same = λ is. same }
+look_same book look legal same =
+    record { legal = rw same legal; grown = rw same (grown_itself book); same = λ is. same }
 
 pub solo_looks : (book : Book) (looks waits faults after : ℕ) → IsLegal book → after ≡ one_more looks
     → Emits true (OneLook book) (solo_known book looks waits faults) (solo_known book after waits faults)
@@ -32,64 +33,52 @@ pub solo_waits : (book : Book) (looks waits faults after n : ℕ) → after ≡ 
 solo_waits book looks waits faults after n more =
     (waited n ∷ [], (tt, tt), ap (λ n. solo_known book looks n faults) more, refl)
 
--- an import is accepted or refused, and no fault is counted
-decided : (book later : Book) (import : Import) (moment looks waits faults after counted : ℕ) (r : Result Receipt EditFault)
-    → IsLegal book → All IsEdit import.edits → after ≡ one_more looks → counted ≡ faults
-    → (accept book import moment).answer ≡ r → later ≡ (accept book import moment).book
-    → Emits true (Submits import moment r) (solo_known book looks waits faults) (solo_known later after waits counted)
-decided book later import moment looks waits faults after counted r legal edits more none answered same = (
-  entered book ∷ submitted import moment 0 r later ∷ [],
-  (look_same book book legal refl, (inl (edits, answered, look_same _ later (accept_legal book import moment legal edits) same), tt)),
-  rw (more, none) refl,
-  (book, 0, later, refl),
-)
+module _ (book later : Book) (import : Import) (moment looks waits faults after counted : ℕ) (legal : IsLegal book)
+    (more : after ≡ one_more looks) where
+  -- an import is accepted or refused, and no fault is counted
+  decided : (r : Result Receipt EditFault) → All IsEdit import.edits → counted ≡ faults
+      → (accept book import moment).answer ≡ r → later ≡ (accept book import moment).book
+      → Emits true (Submits import moment r) (solo_known book looks waits faults) (solo_known later after waits counted)
+  decided r edits none answered same =
+      let look = look_same _ later (accept_legal book import moment legal edits) same in (
+        entered book ∷ submitted import moment 0 r later ∷ [],
+        (look_same book book legal refl, (inl (edits, answered, look), tt)),
+        rw (more, none) refl,
+        (book, 0, later, refl),
+      )
 
--- its batch couldn't be kept, and a fault is counted
-unkept : (book later : Book) (import : Import) (moment looks waits faults after counted : ℕ)
-    → IsLegal book → after ≡ one_more looks → counted ≡ one_more faults → later ≡ book
-    → Emits true (Submits import moment (Err fault.Keeper)) (solo_known book looks waits faults) (solo_known later after waits counted)
-unkept book later import moment looks waits faults after counted legal more one same = (
-  entered book ∷ submitted import moment 1 (Err fault.Keeper) later ∷ [],
-  (look_same book book legal refl, (inr (refl, omega arith, look_same book later legal same), tt)),
-  rw (more, one) refl,
-  (book, 1, later, refl),
-)
+  -- or its batch couldn't be kept, and a fault is counted
+  pub solo_submits : (r : Result Receipt EditFault) → All IsEdit import.edits → counted ≡ after_edit r faults
+      → IfOk r (λ receipt. (accept book import moment).answer ≡ Ok receipt)
+      → OnOk r (later ≡ (accept book import moment).book)
+      → IfErr r (λ why. why ≢ fault.Memory → why ≢ fault.Keeper → (accept book import moment).answer ≡ Err why)
+      → OnErr r (later ≡ book) → r ≢ Err fault.Memory
+      → Emits true (Submits import moment r) (solo_known book looks waits faults) (solo_known later after waits counted)
+  solo_submits (Ok receipt) edits count told gained refused stayed known = decided (Ok receipt) edits count told gained
+  solo_submits (Err fault.Keeper) edits count told gained refused stayed known = (
+    entered book ∷ submitted import moment 1 (Err fault.Keeper) later ∷ [],
+    (look_same book book legal refl, (inr (refl, omega arith, look_same book later legal stayed), tt)),
+    rw (more, count) refl,
+    (book, 1, later, refl),
+  )
+  solo_submits (Err fault.Memory) edits count told gained refused stayed known = absurd (known refl)
+  solo_submits (Err why) edits count told gained refused stayed known =
+      let answered = refused (λ is. cc) (λ is. cc) in
+      decided (Err why) edits count answered (stayed ∙ sym (refused_leaves book import moment why answered))
 
-pub solo_submits : (r : Result Receipt EditFault) (book later : Book) (import : Import) (moment looks waits faults after counted : ℕ)
-    → IsLegal book → All IsEdit import.edits → after ≡ one_more looks → counted ≡ after_edit r faults
-    → IfOk r (λ receipt. (accept book import moment).answer ≡ Ok receipt) → OnOk r (later ≡ (accept book import moment).book)
-    → IfErr r (λ why. why ≢ fault.Memory → why ≢ fault.Keeper → (accept book import moment).answer ≡ Err why) → OnErr r (later ≡ book)
-    → r ≢ Err fault.Memory
-    → Emits true (Submits import moment r) (solo_known book looks waits faults) (solo_known later after waits counted)
-solo_submits (Ok receipt) book later import moment looks waits faults after counted legal edits more count told gained refused stayed known =
-    decided book later import moment looks waits faults after counted (Ok receipt) legal edits more count told gained
-solo_submits (Err fault.Keeper) book later import moment looks waits faults after counted legal edits more count told gained refused stayed known =
-    unkept book later import moment looks waits faults after counted legal more count stayed
-solo_submits (Err fault.Memory) book later import moment looks waits faults after counted legal edits more count told gained refused stayed known =
-    absurd (known refl)
-solo_submits (Err (fault.OtherBody n)) book later import moment looks waits faults after counted legal edits more count told gained refused stayed known =
-    let answered = refused (λ is. cc) (λ is. cc) in
-    decided book later import moment looks waits faults after counted (Err (fault.OtherBody n)) legal edits more count answered
-    (stayed ∙ sym (refused_leaves book import moment (fault.OtherBody n) answered))
-solo_submits (Err (fault.Broken row rule)) book later import moment looks waits faults after counted legal edits more count told gained refused stayed known =
-    let answered = refused (λ is. cc) (λ is. cc) in
-    decided book later import moment looks waits faults after counted (Err (fault.Broken row rule)) legal edits more count answered
-    (stayed ∙ sym (refused_leaves book import moment (fault.Broken row rule) answered))
+  pub solo_lost : (r : Result Receipt EditFault) → counted ≡ after_edit r faults → OnErr r (later ≡ book)
+      → r ≡ Err fault.Memory
+      → Emits true (PrefixOf (IsSubmitted import moment)) (solo_known book looks waits faults)
+      (solo_known later after waits counted)
+  solo_lost (Err fault.Memory) count stayed is = (
+    entered book ∷ [],
+    (look_same book book legal refl, tt),
+    rw (stayed, more, count) refl,
+    (submitted import moment 0 (Err fault.Keeper) book ∷ [], (Err fault.Keeper, (book, 0, book, refl))),
+  )
+  solo_lost _ count stayed is = cc
 
-pub solo_lost : (r : Result Receipt EditFault) (book later : Book) (import : Import) (moment looks waits faults after counted : ℕ)
-    → IsLegal book → after ≡ one_more looks → counted ≡ after_edit r faults → OnErr r (later ≡ book) → r ≡ Err fault.Memory
-    → Emits true (PrefixOf (IsSubmitted import moment)) (solo_known book looks waits faults) (solo_known later after waits counted)
-solo_lost (Err fault.Memory) book later import moment looks waits faults after counted legal more count stayed is = (
-  entered book ∷ [],
-  (look_same book book legal refl, tt),
-  rw (stayed, more, count) refl,
-  (submitted import moment 0 (Err fault.Keeper) book ∷ [], (Err fault.Keeper, (book, 0, book, refl))),
-)
-solo_lost (Ok receipt) book later import moment looks waits faults after counted legal more count stayed is = cc
-solo_lost (Err fault.Keeper) book later import moment looks waits faults after counted legal more count stayed is = cc
-solo_lost (Err (fault.OtherBody n)) book later import moment looks waits faults after counted legal more count stayed is = cc
-solo_lost (Err (fault.Broken row rule)) book later import moment looks waits faults after counted legal more count stayed is = cc
-
-pub solo_stays : (r : Result Receipt EditFault) (book later : Book) → IsLegal book → OnErr r (later ≡ book) → r ≡ Err fault.Memory → IsLook true book later
+pub solo_stays : (r : Result Receipt EditFault) (book later : Book) → IsLegal book → OnErr r (later ≡ book)
+    → r ≡ Err fault.Memory → IsLook true book later
 solo_stays (Ok receipt) book later legal stayed is = cc
 solo_stays (Err why) book later legal stayed is = look_same book later legal stayed

@@ -1,7 +1,8 @@
 -- The edges that a connection's turns were answered with, and what following them leads to.
-use Rattle.std.proofs.Common.{◌≡◌, ℕ, zero, suc, Bool, true, false, ◌==◌, List, [], ◌∷◌, ◌++◌, map, All, fold, Option, Some, None, IfSome, if◌then◌else◌, refl, sym, ◌∙◌, ap, subst, inl, inr, append_assoc, arith}
+use Rattle.std.proofs.Common.{◌≡◌, ℕ, Bool, true, false, List, [], ◌∷◌, ◌++◌, map, All, fold, Option, Some, None, if◌then◌else◌, refl, sym, ◌∙◌, ap, subst, inl, inr, append_assoc, arith}
 use Rattle.std.proofs.lemmas.List.Sums.{fold-append}
-use Rattle.std.specs.Prelude.{slice_get, codes}
+use Rattle.std.proofs.lemmas.List.Elements.{All-cons, All-contains, All-head, All-nil, All-tail}
+use Rattle.std.proofs.lemmas.Option.{IfSome_then}
 use Rattle.alto_rows.specs.declared.resource.Resource.{Resource}
 use Rattle.alto_rows.specs.Good.{AreGood, IsResource}
 use Rattle.alto_rows.specs.Ids.{resource_id, resource_named}
@@ -9,7 +10,7 @@ use Rattle.alto_rows.specs.Rows.{Rows}
 use Rattle.alto_rows.specs.Versions.{is_declared}
 use Rattle.alto_rows.proofs.IdLemmas.{names_if_declared, unambiguous}
 use Rattle.tips_graph.specs.declared.status.EdgeStatus.{EdgeStatus}
-use Rattle.tips_graph.specs.declared.status.EdgeStatus.TheVariants.{Absent, Gone, Awaited, Ahead, Here}
+use Rattle.tips_graph.specs.declared.status.EdgeStatus.TheVariants.{Awaited, Here}
 use Rattle.alto_book.specs.Book.{Book, Extends, rows_of}
 use Rattle.alto_book.specs.Legal.{IsLegal}
 use Rattle.alto_book.specs.Numbers.{status_at}
@@ -19,7 +20,6 @@ use Rattle.alto_book.proofs.WalkLemmas.{bodies_stay, walks_lead_on}
 use Rattle.alto_http.specs.Request.{RequestData}
 use Rattle.alto_http.specs.declared.request.Verb.{Verb}
 use Rattle.alto_http.specs.declared.request.Verb.TheVariants as verb
-use Rattle.alto_replies.specs.Replies.{document_reply, not_found, wrong_method}
 use Rattle.alto_replies.specs.Reply.{ReplyData, bytes_of}
 use Rattle.alto_answers.specs.Answers.{AnswersTo}
 use Rattle.alto_answers.specs.Edges.{content_reply, edge_by, edge_reply, edges_answer, named_edge}
@@ -29,32 +29,33 @@ use Rattle.alto_answers.specs.declared.outcome.Answer.{Answer}
 use Rattle.alto_answers.specs.declared.outcome.Answer.TheVariants as answer
 use Rattle.alto_answers.specs.declared.client.Client.{Client}
 use Rattle.alto_serve.specs.declared.end.End.{End}
-use Rattle.alto_serve.specs.declared.end.End.TheVariants as end
-use Rattle.alto_serve.specs.Connections.{Comes, IsServed, IsTurn, Serves, State, events_of, state, trace_of}
-use Rattle.alto_serve.specs.Events.{Event, looked, entered, submitted, waited, wrote, Known, known_after, IsHistory}
+use Rattle.alto_serve.specs.Connections.{IsServed, IsTurn, Serves, State, trace_of}
+use Rattle.alto_serve.specs.Events.{Event, looked, entered, waited, wrote, Known, known_after, IsGrown, IsHistory}
 use Rattle.alto_serve.specs.Steps.{Becomes}
-use Rattle.alto_serve.specs.Turns.{IsReplied, Reaches, Setting, Stage, looks_next, has_answer, sees, submits}
-use Rattle.alto_serve.specs.Walks.{AsksEdge, EdgeAsked, Exchange, IsAnswered, IsWalk, WalksReachDocuments, edge_of}
-use Rattle.alto_serve.proofs.ConnectionLemmas.{served_never}
-use Rattle.alto_serve.proofs.EventLemmas.{history_behind, history_extends, history_legal}
+use Rattle.alto_serve.specs.Turns.{Exchange, IsReplied, Reaches, Setting, Stage, looks_next, has_answer, sees, submits}
+use Rattle.alto_serve.specs.Walks.{AsksEdge, EdgeAsked, GivesEdge, IsWalkIn, WalksReachDocuments, content_in, edge_of}
+use Rattle.alto_serve.proofs.EventLemmas.{grown_legal, history_behind, history_grown}
 
 -- ---- the answer to a request for an edge
 
 -- an edge was answered 200 at a look
-pub record IsHad (look : Book) (of : Resource) (edge : EdgeAsked) (reply : ReplyData) : Type 0 where
+pub record IsGiven (look : Book) (of : Resource) (edge : EdgeAsked) (reply : ReplyData) : Type 0 where
   pub declared : is_declared (rows_of look) of ≡ true
   pub here : status_at look of edge.i edge.j ≡ Here
   pub same : reply ≡ edge_reply look of edge.form edge.i edge.j
 
--- the answer to an edge of a resource, by whether it is declared
-abbrev edge_if : Bool → Book → Resource → EdgeAsked → Answer
-edge_if declared look of edge = if declared then edge_by (status_at look of edge.i edge.j) look of edge.form edge.i edge.j else answer.Reply (not_found (codes "resource"))
+-- where an answer is 200, it gives the edge; and it is no import
+abbrev IsEdgeAnswer : Book → Resource → EdgeAsked → Answer → Type 0
+IsEdgeAnswer look of edge (answer.Reply reply) = reply.status ≡ 200 → IsGiven look of edge reply
+IsEdgeAnswer look of edge (answer.Hold held from to) = Unit {0}
+IsEdgeAnswer look of edge (answer.Edit import) = ⊥
 
--- and by the method
-abbrev edge_for : Verb → Book → Resource → EdgeAsked → Answer
-edge_for verb.Get look of edge = edge_if (is_declared (rows_of look) of) look of edge
-edge_for verb.Post look of edge = answer.Reply (wrong_method verb.Get)
-edge_for verb.Other look of edge = answer.Reply (wrong_method verb.Get)
+answer_by : (look : Book) (of : Resource) (edge : EdgeAsked) (status : EdgeStatus)
+    → status_at look of edge.i edge.j ≡ status → is_declared (rows_of look) of ≡ true
+    → IsEdgeAnswer look of edge (edge_by status look of edge.form edge.i edge.j)
+answer_by look of edge Awaited is declared = tt
+answer_by look of edge Here is declared = λ ok. record { declared = declared; here = is; same = refl }
+answer_by look of edge _ is declared = λ ok. absurd (omega (arith, ok))
 
 -- the id of a resource names it where it is declared
 named-by_id : (rows : Rows) (text : List ℕ) (of : Resource) → AreGood rows → IsResource of → resource_id of ≡ text
@@ -65,219 +66,166 @@ named-by_id rows text of good is id =
       λ same. let one : of ≡ other = cc in (subst IsResource one is, ap resource_id (sym one) ∙ id),
     )))
 
--- what a request for an edge is answered
-answer-asked : (look : Book) (client : Client) (request : RequestData) (of : Resource) (edge : EdgeAsked) (met : Answer) → IsLegal look → AsksEdge client request of edge
-    → AnswersTo request look client met → met ≡ edge_for request.verb look of edge
+edge_answer : (look : Book) (client : Client) (request : RequestData) (of : Resource) (edge : EdgeAsked) (met : Answer)
+    → IsLegal look → AsksEdge client request of edge → AnswersTo request look client met → IsEdgeAnswer look of edge met
 unfolding AnswersTo
-answer-asked look client request of edge met legal a is = (rw a.routed at is) ∙ by request.verb
+edge_answer look client request of edge met legal asks is =
+    subst (λ (met : Answer). IsEdgeAnswer look of edge met) (sym (rw asks.routed at is)) (by request.verb)
   where
-    if_declared : (b : Bool) → named_edge look (if b then Some of else None) (patch_form request.accept) (segment (path_of request.target) 4) (segment (path_of request.target) 5)
-        ≡ edge_if b look of edge
-    if_declared true = rw (a.from, a.to, a.accepts) refl
-    if_declared false = refl
+    if_declared : (b : Bool) → is_declared (rows_of look) of ≡ b → IsEdgeAnswer look of edge
+        (named_edge look (if b then Some of else None) (patch_form request.accept)
+        (segment (path_of request.target) 4) (segment (path_of request.target) 5))
+    if_declared true declared =
+        rw (asks.from, asks.to, asks.accepts) (answer_by look of edge (status_at look of edge.i edge.j) refl declared)
+    if_declared false declared = λ ok. absurd (omega (arith, ok))
 
-    by : (v : Verb) → edges_answer v look (patch_form request.accept) (segment (path_of request.target) 2) (segment (path_of request.target) 4) (segment (path_of request.target) 5)
-        ≡ edge_for v look of edge
+    by : (v : Verb) → IsEdgeAnswer look of edge (edges_answer v look (patch_form request.accept)
+        (segment (path_of request.target) 2) (segment (path_of request.target) 4) (segment (path_of request.target) 5))
     by verb.Get =
-        rw (named-by_id (rows_of look) (segment (path_of request.target) 2) of (good_rows look legal) a.resource a.id) (if_declared (is_declared (rows_of look) of))
-    by verb.Post = refl
-    by verb.Other = refl
-
--- where it is 200, the edge can be had; and it is no import
-abbrev IsEdgeAnswer : Book → Resource → EdgeAsked → Answer → Type 0
-IsEdgeAnswer look of edge (answer.Reply reply) = reply.status ≡ 200 → IsHad look of edge reply
-IsEdgeAnswer look of edge (answer.Hold held from to) = Unit {0}
-IsEdgeAnswer look of edge (answer.Edit import) = ⊥
-
-answer_by : (look : Book) (of : Resource) (edge : EdgeAsked) (status : EdgeStatus) → status_at look of edge.i edge.j ≡ status
-    → is_declared (rows_of look) of ≡ true → IsEdgeAnswer look of edge (edge_by status look of edge.form edge.i edge.j)
-answer_by look of edge Absent is declared = λ ok. absurd (omega (arith, ok))
-answer_by look of edge Gone is declared = λ ok. absurd (omega (arith, ok))
-answer_by look of edge Awaited is declared = tt
-answer_by look of edge Ahead is declared = λ ok. absurd (omega (arith, ok))
-answer_by look of edge Here is declared = λ ok. record { declared = declared; here = is; same = refl }
-
-answer_for : (v : Verb) (look : Book) (of : Resource) (edge : EdgeAsked) → IsEdgeAnswer look of edge (edge_for v look of edge)
-answer_for verb.Get look of edge = by (is_declared (rows_of look) of) refl
-  where
-    by : (b : Bool) → is_declared (rows_of look) of ≡ b → IsEdgeAnswer look of edge (edge_if b look of edge)
-    by true e = answer_by look of edge (status_at look of edge.i edge.j) refl e
-    by false e = λ ok. absurd (omega (arith, ok))
-answer_for verb.Post look of edge = λ ok. absurd (omega (arith, ok))
-answer_for verb.Other look of edge = λ ok. absurd (omega (arith, ok))
-
-edge_answer : (look : Book) (client : Client) (request : RequestData) (of : Resource) (edge : EdgeAsked) (met : Answer) → IsLegal look → AsksEdge client request of edge
-    → AnswersTo request look client met → IsEdgeAnswer look of edge met
-edge_answer look client request of edge met legal a is =
-    let P : Answer → Type 0 = λ met. IsEdgeAnswer look of edge met in
-    subst P (sym (answer-asked look client request of edge met legal a is)) (answer_for request.verb look of edge)
+        let named = named-by_id (rows_of look) _ of (good_rows look legal) asks.resource asks.id in
+        rw named (if_declared (is_declared (rows_of look) of) refl)
+    by _ = λ ok. absurd (omega (arith, ok))
 
 -- ---- a turn
 
--- a legal book extends one at which an edge was had
-pub record WasHad (book : Book) (of : Resource) (edge : EdgeAsked) (reply : ReplyData) : Type 0 where
-  pub legal : IsLegal book
+-- an edge was given at a legal book, from which this one grew
+pub record WasGiven (book : Book) (of : Resource) (edge : EdgeAsked) (reply : ReplyData) : Type 0 where
   pub look : Book
-  pub extends : Extends book look
-  pub had : IsHad look of edge reply
+  pub legal : IsLegal look
+  pub grown : IsGrown book look
+  pub given : IsGiven look of edge reply
 
--- what was looked at last is the book that is seen; and no import was entered
-abbrev IsAt : Stage → Book → Type 0
-IsAt (looks_next left) seen = Unit {0}
-IsAt (sees left book) seen = (book ≡ seen) × IsLegal seen
-IsAt (submits import) seen = ⊥
-IsAt (has_answer moment decided) seen = ⊥
+-- what was looked at last is a legal book, from which the last one grew; and no import was entered
+abbrev IsAt : Book → Stage → Type 0
+IsAt last (looks_next left) = Unit {0}
+IsAt last (sees left book) = IsLegal book × IsGrown last book
+IsAt _ _ = ⊥
 
--- a reply to an edge, and whatever happens then
-replied_had : (alone : Bool) (client : Client) (request : RequestData) (known : Known) (stage : Stage) (events : List Event) (told : ReplyData)
-    → IsAt stage known.seen → IsReplied client request stage told → IsHistory alone known events
-    → (of : Resource) (edge : EdgeAsked) → AsksEdge client request of edge → told.status ≡ 200
-    → WasHad (fold (known_after alone) known events).seen of edge told
-replied_had alone client request known (looks_next left) events told at replied may of edge a ok = absurd replied
-replied_had alone client request known (submits import) events told at replied may of edge a ok = absurd at
-replied_had alone client request known (has_answer moment decided) events told at replied may of edge a ok = absurd at
-replied_had alone client request known (sees left book) events told (same, legal) (inr (held, from, to, answers, none, is)) may of edge a ok =
-    absurd (omega (arith, sym (ap (λ (r : ReplyData). r.status) is) ∙ ok))
-replied_had alone client request known (sees left book) events told (same, legal) (inl answers) may of edge a ok =
-    let A : Book → Type 0 = λ book. AnswersTo request book client (answer.Reply told) in
-    record {
-      legal = history_legal alone known events may legal;
-      look = known.seen;
-      extends = history_extends alone known events may;
-      had = edge_answer known.seen client request of edge (answer.Reply told) legal a (subst A same answers) ok;
-    }
+-- the book that is seen after events
+abbrev seen_after : Bool → Known → List Event → Book
+seen_after alone known events = (fold (known_after alone) known events).seen
 
-reaches_had : (alone : Bool) (client : Client) (request : RequestData) (known : Known) (stage last : Stage) (events rest : List Event) (told : ReplyData)
-    → IsAt stage known.seen → Reaches client request stage events last → IsReplied client request last told → IsHistory alone known (events ++ rest)
-    → (of : Resource) (edge : EdgeAsked) → AsksEdge client request of edge → told.status ≡ 200
-    → WasHad (fold (known_after alone) known (events ++ rest)).seen of edge told
-reaches_had alone client request known stage last [] rest told at reached replied may of edge a ok =
-    let R : Stage → Type 0 = λ stage. IsReplied client request stage told in
-    replied_had alone client request known stage rest told at (subst R (sym reached) replied) may of edge a ok
-reaches_had alone client request known (looks_next left) last (looked book ∷ events) rest told at (next, goes, reached) replied may of edge a ok =
-    let R : Stage → Type 0 = λ stage. Reaches client request stage events last in
-    reaches_had alone client request (known_after alone known (looked book)) (sees left book) last events rest told
-    (refl, may.0.legal) (subst R goes reached) replied may.1 of edge a ok
-reaches_had alone client request known (sees left book) last (waited n ∷ events) rest told at (next, (fewer, held, from, to, one, answers, number, is), reached) replied may of edge a ok =
-    let R : Stage → Type 0 = λ stage. Reaches client request stage events last in
-    reaches_had alone client request (known_after alone known (waited n)) (looks_next fewer) last events rest told
-    tt (subst R is reached) replied may.1 of edge a ok
-reaches_had alone client request known (sees left book) last (entered look ∷ events) rest told at (next, (import, answers, is), reached) replied may of edge a ok =
-    absurd (edge_answer book client request of edge (answer.Edit import) (subst IsLegal (sym at.0) at.1) a answers)
-reaches_had alone client request known (submits import) last (event ∷ events) rest told at reached replied may of edge a ok = absurd at
-reaches_had alone client request known (has_answer moment decided) last (event ∷ events) rest told at reached replied may of edge a ok = absurd at
-reaches_had alone client request known (looks_next left) last (entered book ∷ events) rest told at (next, goes, reached) replied may of edge a ok = absurd goes
-reaches_had alone client request known (looks_next left) last (submitted import moment faults decided book ∷ events) rest told at (next, goes, reached) replied may of edge a ok = absurd goes
-reaches_had alone client request known (looks_next left) last (waited n ∷ events) rest told at (next, goes, reached) replied may of edge a ok = absurd goes
-reaches_had alone client request known (looks_next left) last (wrote bytes ∷ events) rest told at (next, goes, reached) replied may of edge a ok = absurd goes
-reaches_had alone client request known (sees left look) last (looked book ∷ events) rest told at (next, goes, reached) replied may of edge a ok = absurd goes
-reaches_had alone client request known (sees left look) last (submitted import moment faults decided book ∷ events) rest told at (next, goes, reached) replied may of edge a ok = absurd goes
-reaches_had alone client request known (sees left look) last (wrote bytes ∷ events) rest told at (next, goes, reached) replied may of edge a ok = absurd goes
+module _ (alone : Bool) (client : Client) (request : RequestData) (of : Resource) (edge : EdgeAsked)
+    (asks : AsksEdge client request of edge) (told : ReplyData) (ok : told.status ≡ 200) where
+  reply_gives : (last : Book) (stage : Stage) → IsAt last stage → IsReplied client request stage told
+      → WasGiven last of edge told
+  reply_gives last (looks_next left) at replied = absurd replied
+  reply_gives last (sees left book) at (inl answers) =
+      let given = edge_answer book client request of edge (answer.Reply told) at.0 asks answers ok in
+      record { look = book; legal = at.0; grown = at.1; given = given }
+  reply_gives last (sees left book) at (inr (held, from, to, answers, none, is)) =
+      absurd (omega (arith, sym (ap (λ (r : ReplyData). r.status) is) ∙ ok))
+  reply_gives last _ at replied = absurd at
+
+  turn_gives : (known : Known) (stage last : Stage) (events rest : List Event)
+      → IsAt (seen_after alone known (events ++ rest)) stage → Reaches client request stage events last
+      → IsReplied client request last told → IsHistory alone known (events ++ rest)
+      → WasGiven (seen_after alone known (events ++ rest)) of edge told
+  turn_gives known stage last [] rest at reached replied may =
+      reply_gives (seen_after alone known rest) stage at (rw reached replied)
+  turn_gives known (looks_next left) last (looked book ∷ events) rest at (next, leads, reached) replied may =
+      let now = known_after alone known (looked book) in
+      turn_gives now (sees left book) last events rest
+      (may.0.legal, history_grown alone now (events ++ rest) may.1) (rw leads at reached) replied may.1
+  turn_gives known (sees left book) last (waited n ∷ events) rest at (next, leads, reached) replied may =
+      turn_gives (known_after alone known (waited n)) (looks_next leads.0) last events rest tt
+      (rw leads.7 at reached) replied may.1
+  turn_gives known (sees left book) last (entered look ∷ events) rest at (next, leads, reached) replied may =
+      absurd (edge_answer book client request of edge (answer.Edit leads.0) at.0 asks leads.1)
+  turn_gives known (submits import) last (event ∷ events) rest at reached replied may = absurd at
+  turn_gives known (has_answer moment decided) last (event ∷ events) rest at reached replied may = absurd at
+  turn_gives known _ last (_ ∷ events) rest at (next, leads, reached) replied may = absurd leads
 
 -- ---- all turns
 
--- the edge that an exchange asked for, if it was answered 200, was had
-abbrev Had : Client → Exchange → Book → Type 0
-Had client e book = (of : Resource) (edge : EdgeAsked) → AsksEdge client e.request of edge → e.reply.status ≡ 200 → WasHad book of edge e.reply
+-- the edge that an exchange asked for, if it was answered 200, was given
+abbrev GaveEdge : Client → Book → Exchange → Type 0
+GaveEdge client book exchange = (of : Resource) (edge : EdgeAsked) → AsksEdge client exchange.request of edge
+    → exchange.reply.status ≡ 200 → WasGiven book of edge exchange.reply
 
-all_had : (alone : Bool) (setting : Setting) (known : Known) (exchanges : List Exchange) (tail : List Event) → All (IsTurn setting) exchanges
-    → IsHistory alone known (trace_of exchanges ++ tail)
-    → (n : ℕ) (e : Exchange) → slice_get exchanges n ≡ Some e
-    → Had setting.client e (fold (known_after alone) known (trace_of exchanges ++ tail)).seen
-all_had alone setting known [] tail turns may n e there = cc
-all_had alone setting known (first ∷ exchanges) tail turns may zero e there =
-    let same : first ≡ e = cc in
-    let turn = turns 0 first (omega arith) in
+all_give : (setting : Setting) (known : Known) (exchanges : List Exchange) (tail : List Event)
+    → All (IsTurn setting) exchanges → IsHistory setting.alone known (trace_of exchanges ++ tail)
+    → All (GaveEdge setting.client (seen_after setting.alone known (trace_of exchanges ++ tail))) exchanges
+all_give setting known [] tail turns may = All-nil (GaveEdge setting.client (seen_after setting.alone known tail))
+all_give setting known (first ∷ exchanges) tail turns may =
+    let turn = All-head (IsTurn setting) first exchanges turns in
     let more = wrote (bytes_of first.reply first.request.close) ∷ (trace_of exchanges ++ tail) in
-    let whole : (events_of first ++ trace_of exchanges) ++ tail ≡ first.events ++ more =
-    append_assoc (events_of first) (trace_of exchanges) tail ∙ append_assoc first.events _ (trace_of exchanges ++ tail) in
-    let H : List Event → Type 0 = λ xs. IsHistory alone known xs in
-    let W : List Event → Type 0 = λ xs. Had setting.client first (fold (known_after alone) known xs).seen in
-    let Q : Exchange → Type 0 = λ x. Had setting.client x (fold (known_after alone) known (trace_of (first ∷ exchanges) ++ tail)).seen in
-    subst Q same
-    (subst W (sym whole)
-    (reaches_had alone setting.client first.request known (looks_next setting.turns) turn.0 first.events more first.reply tt turn.1.0 turn.2 (subst H whole may)))
-all_had alone setting known (first ∷ exchanges) tail turns may (suc n) e there =
-    let whole = append_assoc (events_of first) (trace_of exchanges) tail in
-    let H : List Event → Type 0 = λ xs. IsHistory alone known xs in
-    let W : List Event → Type 0 = λ xs. Had setting.client e (fold (known_after alone) known xs).seen in
-    let K : Known → Type 0 = λ known. Had setting.client e known.seen in
-    subst W (sym whole)
-    (subst K (sym (fold-append (known_after alone) known (events_of first) (trace_of exchanges ++ tail)))
-    (all_had alone setting (fold (known_after alone) known (events_of first)) exchanges tail (λ k d lt. turns (suc k) d (omega (arith, lt)))
-    (history_behind alone known (events_of first) (trace_of exchanges ++ tail) (subst H whole may)) n e there))
+    let whole : trace_of (first ∷ exchanges) ++ tail ≡ first.events ++ more = simp append_assoc in
+    let may' : IsHistory setting.alone known (first.events ++ more) = (rw whole at may) in
+    let rest = all_give setting (fold (known_after setting.alone) known first.events) exchanges tail
+    (All-tail (IsTurn setting) first exchanges turns) (history_behind setting.alone known first.events more may').1 in
+    subst (λ (xs : List Event). All (GaveEdge setting.client (seen_after setting.alone known xs)) (first ∷ exchanges))
+    (sym whole) (All-cons (GaveEdge setting.client (seen_after setting.alone known (first.events ++ more))) first exchanges
+    (λ of edge asks ok. turn_gives setting.alone setting.client first.request of edge asks first.reply ok known
+    (looks_next setting.most_waits) turn.0 first.events more tt turn.1.0 turn.2 may')
+    (subst (λ (now : Known). All (GaveEdge setting.client now.seen) exchanges)
+    (sym (fold-append (known_after setting.alone) known first.events more)) rest))
 
 -- ---- walks
 
--- each edge that was answered was had
-abbrev AreHad : Client → List Exchange → Book → Type 0
-AreHad client exchanges book =
-    (of : Resource) (edge : EdgeAsked) (reply : ReplyData) → IsAnswered client exchanges of edge reply → WasHad book of edge reply
+module _ (book : Book) (of : Resource) (edge : EdgeAsked) (reply : ReplyData) (was : WasGiven book of edge reply) where
+  edge-answered : (content : walks.Content) → content ≡ content_in was.look of edge
+      → walks.IsAnswered book of (record (edge_of book of edge) { content = content })
+  edge-answered content same = record {
+    look = was.look;
+    extends = (grown_legal book was.look was.grown was.legal).1;
+    declared = was.given.declared;
+    here = was.given.here;
+    content = same;
+  }
 
-edge-answered : (book : Book) (of : Resource) (edge : EdgeAsked) (reply : ReplyData) → WasHad book of edge reply
-    → walks.IsAnswered book of (edge_of book of edge)
-edge-answered book of edge reply was =
-    let then_body : walks.IsAnswered book of (edge_of was.look of edge) =
-    record { look = was.look; extends = was.extends; declared = was.had.declared; here = was.had.here; content = refl } in
-    let same = sym (bodies_stay book of _ was.legal then_body) in
-    record { look = was.look; extends = was.extends; declared = was.had.declared; here = was.had.here; content = same }
+  edge_stays : content_in was.look of edge ≡ content_in book of edge
+  edge_stays =
+      bodies_stay book of (edge_of was.look of edge) (grown_legal book was.look was.grown was.legal).0
+      (edge-answered (content_in was.look of edge) refl)
 
-reply-stays : (book : Book) (of : Resource) (edge : EdgeAsked) (reply : ReplyData) → WasHad book of edge reply → reply ≡ edge_reply book of edge.form edge.i edge.j
-unfolding edge-answered
-reply-stays book of edge reply was = was.had.same ∙ ap (content_reply of) (sym (edge-answered book of edge reply was).content)
+  reply_stays : reply ≡ edge_reply book of edge.form edge.i edge.j
+  reply_stays = was.given.same ∙ ap (content_reply of) edge_stays
 
-walk_had : (client : Client) (exchanges : List Exchange) (book : Book) (of : Resource) (from : ℕ) (edges : List EdgeAsked) (at : ℕ)
-    → AreHad client exchanges book → IsWalk client exchanges of from edges at → walks.IsWalk book of from (map (edge_of book of) edges) at
-walk_had client exchanges book of from [] at had along = along
-walk_had client exchanges book of from (edge ∷ edges) at had (begins, answered, along) =
-    (begins, edge-answered book of edge answered.0 (had of edge answered.0 answered.1), walk_had client exchanges book of edge.j edges at had along)
+module _ (client : Client) (exchanges : List Exchange) (book : Book)
+    (given : (of : Resource) (edge : EdgeAsked) (exchange : Exchange) → GivesEdge client exchanges of edge exchange
+    → WasGiven book of edge exchange.reply) where
+  walk_given : (of : Resource) (from : ℕ) (edges : List EdgeAsked) (at : ℕ)
+      → IsWalkIn client exchanges of from edges at → walks.IsWalk book of from (map (edge_of book of) edges) at
+  walk_given of from [] at along = along
+  walk_given of from (edge ∷ edges) at (begins, (exchange, gives), along) =
+      let was = given of edge exchange gives in
+      let stays = edge_stays book of edge exchange.reply was in (
+        begins,
+        edge-answered book of edge exchange.reply was (content_in book of edge) (sym stays),
+        walk_given of edge.j edges at along,
+      )
 
-walks_reach : (client : Client) (exchanges : List Exchange) (book : Book) → AreHad client exchanges book → WalksReachDocuments client exchanges book
-walks_reach client exchanges book had = record {
-  replies = λ of edge reply answered. reply-stays book of edge reply (had of edge reply answered);
-  bodies = λ of edge reply answered. ap (λ (r : ReplyData). r.body) (reply-stays book of edge reply (had of edge reply answered));
-  walks = λ of from at first edges held along start.
-      walks_lead_on book of from at (edge_of book of first) (map (edge_of book of) edges) held
-      (had of first along.1.0 along.1.1).legal
-      (walk_had client exchanges book of from (first ∷ edges) at had along) start;
-}
+  walks_reach : WalksReachDocuments client exchanges book
+  walks_reach = record {
+    replies = λ of edge exchange gives. reply_stays book of edge exchange.reply (given of edge exchange gives);
+    bodies = λ of edge exchange gives.
+        ap (λ (r : ReplyData). r.body) (reply_stays book of edge exchange.reply (given of edge exchange gives));
+    walks = λ of from at first edges held along start.
+        let was = given of first along.1.0 along.1.1 in
+        walks_lead_on book of from at (edge_of book of first) (map (edge_of book of) edges) held
+        (grown_legal book was.look was.grown was.legal).0 (walk_given of from (first ∷ edges) at along) start;
+  }
 
 -- ---- a connection
 
-served_had : (ended : End) (setting : Setting) (bytes : List ℕ) (left : Option (List ℕ)) (known : Known) (events : List Event)
-    → IsHistory setting.alone known events → (served : IsServed ended setting bytes left events)
-    → AreHad setting.client served.exchanges (fold (known_after setting.alone) known events).seen
-served_had ended setting bytes left known events may served of edge reply answered =
-    let H : List Event → Type 0 = λ xs. IsHistory setting.alone known xs in
-    let W : List Event → Type 0 = λ xs. WasHad (fold (known_after setting.alone) known xs).seen of edge reply in
-    let R : ReplyData → Type 0 = λ r. WasHad (fold (known_after setting.alone) known (trace_of served.exchanges ++ served.tail)).seen of edge r in
-    subst W (sym served.whole)
-    (subst R answered.replied
-    (all_had setting.alone setting known served.exchanges served.tail served.turns (subst H served.whole may) answered.place answered.exchange answered.there
-    of edge answered.asked (ap (λ (r : ReplyData). r.status) answered.replied ∙ answered.ok)))
-
-walks_now : (ended : End) (setting : Setting) (bytes : List ℕ) (before after : State)
-    → Comes setting (IsServed ended setting bytes after.left) before after
-    → Comes setting (λ events. (served : IsServed ended setting bytes after.left events)
-    × WalksReachDocuments setting.client served.exchanges after.known.seen) before after
-walks_now ended setting bytes before after (events, may, is, (out, served)) =
-    let B : Known → Type 0 = λ known. WalksReachDocuments setting.client served.exchanges known.seen in
-    let had = served_had ended setting bytes after.left before.known events may served in
-    (events, may, is, (out, (served, subst B (sym is) (walks_reach setting.client served.exchanges _ had))))
+served_reach : (ended : End) (setting : Setting) (bytes : List ℕ) (left : Option (List ℕ)) (known : Known)
+    (events : List Event) → IsHistory setting.alone known events → (served : IsServed ended setting bytes left events)
+    → WalksReachDocuments setting.client served.exchanges (seen_after setting.alone known events)
+served_reach ended setting bytes left known events may served =
+    let last = seen_after setting.alone known (trace_of served.exchanges ++ served.tail) in
+    let given = all_give setting known served.exchanges served.tail served.turns (rw served.whole at may) in
+    subst (λ (xs : List Event). WalksReachDocuments setting.client served.exchanges (seen_after setting.alone known xs))
+    (sym served.whole) (walks_reach setting.client served.exchanges last (λ of edge exchange gives.
+    All-contains (GaveEdge setting.client last) served.exchanges exchange given gives.there of edge gives.asked gives.ok))
 
 -- walks along the edges of what was served
 pub served_walks : (ended : End) (setting : Setting) (before after : State)
-    → Becomes setting (λ bytes after. IsServed ended setting bytes after.left) before after → Serves ended setting before after
-served_walks ended setting before after served = by before.left served
-  where
-    by : (given : Option (List ℕ)) → IfSome given (λ bytes. Comes setting (IsServed ended setting bytes after.left) before after)
-        → IfSome given (λ bytes. Comes setting (λ events. (served : IsServed ended setting bytes after.left events)
-        × WalksReachDocuments setting.client served.exchanges after.known.seen) before after)
-    by None h = tt
-    by (Some bytes) h = walks_now ended setting bytes before after h
-
--- memory ran out before the first request
-pub served_idle : (setting : Setting) (known : Known) (left out : Option (List ℕ))
-    → Serves end.Memory setting (state known left out) (state known left out)
-served_idle setting known left out =
-    served_walks end.Memory setting (state known left out) (state known left out) (served_never setting known left out)
+    → Becomes setting (λ bytes after. IsServed ended setting bytes after.left) before after
+    → Serves ended setting before after
+served_walks ended setting before after became =
+    IfSome_then before.left became (λ bytes h.
+    let served = h.3.1 in
+    let reach = subst (λ (known : Known). WalksReachDocuments setting.client served.exchanges known.seen) (sym h.2)
+    (served_reach ended setting bytes after.left before.known h.0 h.1 served) in
+    (h.0, h.1, h.2, (h.3.0, (served, reach))))

@@ -1,5 +1,6 @@
 -- What one request more does to a connection: the words of the calls inside.
-use Rattle.std.specs.Prelude.{◌≡◌, ◌≢◌, ◌⊎◌, ℕ, Bool, true, false, List, [], ◌∷◌, ◌++◌, length, take, All, Option, Some, None, IfSome, IsSome, Result}
+use Rattle.std.specs.Prelude.{◌≡◌, ◌≢◌, ◌⊎◌, ℕ, Bool, true, false, List, [], ◌∷◌, ◌++◌, length, take, All, Option, Some}
+use Rattle.std.specs.Prelude.{None, IfSome, IsSome, Result}
 use Rattle.alto_book.specs.Book.{Book}
 use Rattle.alto_book.specs.declared.command.Receipt.{Receipt}
 use Rattle.alto_book.specs.declared.fault.EditFault.{EditFault}
@@ -16,52 +17,44 @@ use Rattle.alto_replies.specs.Replies.{edit_reply, head_status, too_early}
 use Rattle.alto_replies.specs.Reply.{ReplyData, bytes_of, memory_reply}
 use Rattle.alto_serve.specs.declared.end.End.{End}
 use Rattle.alto_serve.specs.declared.end.End.TheVariants as end
-use Rattle.alto_serve.specs.Connections.{BeginWith, Comes, Ended, IsTurn, State, open_ones, refusal_bytes, requests_of, trace_of}
+use Rattle.alto_serve.specs.Connections.{BeginWithOpen, EmitsOnLink, Ended, IsTurn, State, open_ones, refusal_bytes}
+use Rattle.alto_serve.specs.Connections.{requests_of, trace_of}
 use Rattle.alto_serve.specs.Events.{Event, wrote, Submits}
-use Rattle.alto_serve.specs.Turns.{IsMoment, Reaches, Setting, Stage, TakesTurn, looks_next, has_answer, sees, submits}
-use Rattle.alto_serve.specs.Walks.{Exchange}
+use Rattle.alto_serve.specs.Turns.{Exchange, IsMoment, Reaches, Setting, TakesTurn, looks_next, sees}
 
 -- ---- in a turn
 
--- whether a request stays pending: its answer is the next edge
+-- whether a request stays pending: it asks for the edge that comes next
 abbrev pub is_pending : Answer → Bool
 is_pending (answer.Hold of i j) = true
-is_pending (answer.Reply reply) = false
-is_pending (answer.Edit import) = false
+is_pending _ = false
+
+-- a turn has looked at some book
+abbrev pub HasLooked : Client → RequestData → ℕ → List Event → Type 0
+HasLooked client request most_waits events =
+    (left : ℕ) × (book : Book) × Reaches client request (looks_next most_waits) events (sees left book)
 
 -- a turn has looked at this book, where its request is answered so, and doesn't wait any more
 pub record HasSettled
-    (client : Client) (request : RequestData) (turns : ℕ) (book : Book) (met : Answer) (events : List Event)
+    (client : Client) (request : RequestData) (most_waits : ℕ) (book : Book) (met : Answer) (events : List Event)
     : Type 0 where
   pub left : ℕ
-  pub reached : Reaches client request (looks_next turns) events (sees left book)
+  pub reached : Reaches client request (looks_next most_waits) events (sees left book)
   pub answered : AnswersTo request book client met
   pub last : (is_pending met ≡ false) ⊎ (left ≡ 0)
 
--- a stage with looks and waits alone before it
-abbrev pub IsEarly : Stage → Type 0
-IsEarly (looks_next left) = Unit {0}
-IsEarly (sees left book) = Unit {0}
-IsEarly (submits import) = ⊥
-IsEarly (has_answer moment decided) = ⊥
-
--- a turn has come to such a stage
-abbrev pub IsWaiting : Client → RequestData → ℕ → List Event → Type 0
-IsWaiting client request turns events =
-    (stage : Stage) × Reaches client request (looks_next turns) events stage × IsEarly stage
-
 -- an answer comes to its reply by these events: a reply is that reply; the next edge comes too early; an import is
--- answered, with a timestamp of the clock
+-- answered, with a timestamp that the clock may have told
 abbrev pub Concludes : Option ℕ → Answer → List Event → ReplyData → Type 0
-Concludes time (answer.Reply reply) events given = (events ≡ []) × (given ≡ reply)
-Concludes time (answer.Hold of i j) events given = (events ≡ []) × (given ≡ too_early i)
-Concludes time (answer.Edit import) events given =
-    (moment : ℕ) × (decided : Result Receipt EditFault) × IsMoment time moment × Submits import moment decided events
-    × (given ≡ edit_reply decided)
+Concludes fixed_time (answer.Reply reply) events given = (events ≡ []) × (given ≡ reply)
+Concludes fixed_time (answer.Hold of i j) events given = (events ≡ []) × (given ≡ too_early i)
+Concludes fixed_time (answer.Edit import) events given =
+    (moment : ℕ) × (decided : Result Receipt EditFault) × IsMoment fixed_time moment
+    × Submits import moment decided events × (given ≡ edit_reply decided)
 
--- it comes to some reply
+-- an answer comes to some reply
 abbrev pub IsConcluded : Option ℕ → Answer → List Event → Type 0
-IsConcluded time met events = (reply : ReplyData) × Concludes time met events reply
+IsConcluded fixed_time met events = (reply : ReplyData) × Concludes fixed_time met events reply
 
 -- a request has its turn, which leads to a reply of these bytes
 abbrev pub RepliesWith : Setting → RequestData → List ℕ → List Event → Type 0
@@ -94,23 +87,23 @@ pub record Finishes (ended : End) (setting : Setting) (rest : List ℕ) (after :
   pub ends : Ended ended setting rest after.left (requests_of exchanges) tail
 
 -- `count` requests had their turns, and the rest of the bytes is left
-pub record HasServed (setting : Setting) (bytes : List ℕ) (count : ℕ) (after : State) (events : List Event)
+pub record HasServed (setting : Setting) (count : ℕ) (bytes : List ℕ) (after : State) (events : List Event)
     : Type 0 where
   pub exchanges : List Exchange
   pub rest : List ℕ
   pub leaves : after.left ≡ Some rest
   pub counted : length exchanges ≡ count
-  pub begins : BeginWith bytes (requests_of exchanges) rest
+  pub begins : BeginWithOpen bytes (requests_of exchanges) rest
   pub turns : All (IsTurn setting) exchanges
   pub whole : events ≡ trace_of exchanges
 
 -- where the link tells its bytes, this became of them
 abbrev pub Becomes : Setting → (List ℕ → State → List Event → Type 0) → State → State → Type 0
-Becomes setting P before after = IfSome before.left (λ bytes. Comes setting (P bytes after) before after)
+Becomes setting P before after = IfSome before.left (λ bytes. EmitsOnLink setting (P bytes after) before after)
 
 -- ---- what is written without a request
 
--- so much was written of which this holds, where a link tells what is out
+-- bytes were written of which P holds, where a link tells what is out
 abbrev pub Writes : (List ℕ → Type 0) → Option (List ℕ) → Option (List ℕ) → Type 0
 Writes P out later = (written : List ℕ) × (later ≡ extended out written) × P written
 
@@ -157,11 +150,7 @@ abbrev pub writes_at : End → ℕ → ℕ
 writes_at end.WriteFault n = one_more n
 writes_at ended n = n
 
--- the same where a connection may go on
-abbrev pub reads_so_far : Option End → ℕ → ℕ
-reads_so_far None n = n
-reads_so_far (Some ended) n = reads_at ended n
-
-abbrev pub writes_so_far : Option End → ℕ → ℕ
-writes_so_far None n = n
-writes_so_far (Some ended) n = writes_at ended n
+-- such a count, where a connection may go on
+abbrev pub so_far : (End → ℕ → ℕ) → Option End → ℕ → ℕ
+so_far count_at None n = n
+so_far count_at (Some ended) n = count_at ended n

@@ -23,7 +23,8 @@ pub trait Looks {
     /// What it keeps of its records stands for the book that was seen last. No call ends this.
     ghost is_backed: { Self → Type 0 };
 
-    /// Nothing has put in doubt what it keeps of its records. What did so lasts. Unless an office says more, nothing does.
+    /// Nothing has put in doubt what it keeps of its records. What did so lasts. Unless an office says more, nothing
+    /// does.
     ghost is_clean: { Self → Type 0 } = { λ _. Unit {0} };
 
     /// Looks: gives the version of a book that is seen from then on. Out of memory, it has looked or not.

@@ -2,10 +2,10 @@ ghost use Rattle.std.specs.Prelude.{◌≡◌, false, None, IfSome, List, ℕ};
 ghost use Rattle.alto_answers.specs.Answers.{client_of};
 ghost use Rattle.alto_http.specs.Link.{followed_by};
 ghost use Rattle.alto_http.specs.Splits.{Begins};
-ghost use Rattle.alto_serve.specs.Connections.{Comes, Serves, state};
+ghost use Rattle.alto_serve.specs.Connections.{EmitsOnLink, Serves, state};
 ghost use Rattle.alto_serve.specs.Events.{IsGrown};
 ghost use Rattle.alto_serve.specs.Steps.{Becomes, Finishes, GoesOn, HasReply};
-ghost use Rattle.alto_serve.specs.Steps.{reads_at, reads_so_far, writes_at, writes_so_far};
+ghost use Rattle.alto_serve.specs.Steps.{reads_at, so_far, writes_at};
 ghost use Rattle.alto_serve.specs.Turns.{setting_of};
 
 use crate::clock::Clock;
@@ -22,9 +22,9 @@ use std::alloc::Global;
 const MOST_REQUESTS: u32 = 1_000_000;
 
 /// Serves a connection to its end: reads requests, answers each at the version that the office has then, and writes the
-/// replies. The client's address is `peer`, where it is known. The next edge is waited for, `turns` times at most. How it
-/// ended tells what became of the requests that its bytes are, what was written, and how often the office was looked at
-/// and waited.
+/// replies. The client's address is `peer`, where it is known. The next edge is waited for, `turns` times at most. How
+/// it ended tells what became of the requests that its bytes are, what was written, and how often the office was looked
+/// at and waited.
 pub fn serve_conn<F: Office, L: Link, C: Clock>(
     alloc: Global,
     office: &mut F,
@@ -34,8 +34,8 @@ pub fn serve_conn<F: Office, L: Link, C: Clock>(
     peer: Option<Addr>,
     turns: u32,
 ) -> End
-    // Where the link tells its bytes, they are answered in turn, up to this end, and each walk along the edges that
-    // were answered reaches the document.
+    // Where the link tells its bytes, their requests have their turns, one after another, up to this end, and each walk
+    // along the edges that were given reaches the document.
     ensures served { Serves result (setting_of (client_of side peer) (C.tells clock.now) F.alone turns)
         (state (F.known office.old) (L.left link.old) (L.out link.old))
         (state (F.known office.new) (L.left link.new) (L.out link.new)) }
@@ -80,8 +80,8 @@ fn serve_next<F: Office, L: Link, C: Clock>(
         (state (F.known office.old) (followed_by intake.old (L.left link.old)) (L.out link.old))
         (state (F.known office.new) (L.left link.new) (L.out link.new))) }
 
-    ensures reads { L.failed_reads link.new ≡ reads_so_far result (L.failed_reads link.old) }
-    ensures writes { L.failed_writes link.new ≡ writes_so_far result (L.failed_writes link.old) }
+    ensures reads { L.failed_reads link.new ≡ so_far reads_at result (L.failed_reads link.old) }
+    ensures writes { L.failed_writes link.new ≡ so_far writes_at result (L.failed_writes link.old) }
     ensures book { IsGrown (F.known office.new).seen (F.known office.old).seen }
     ensures backed { F.is_backed office.old → F.is_backed office.new }
     ensures clean { F.is_clean office.new → F.is_clean office.old }
@@ -105,18 +105,18 @@ fn respond<F: Office, L: Link, C: Clock>(
 ) -> Option<End>
     ensures stays { result ≡ None → request.now.close ≡ false }
     ensures on { result ≡ None → let setting = setting_of client.now (C.tells clock.now) F.alone turns in
-        Comes setting (HasReply setting request.now)
+        EmitsOnLink setting (HasReply setting request.now)
         (state (F.known office.old) (L.left link.old) (L.out link.old))
         (state (F.known office.new) (L.left link.new) (L.out link.new)) }
     ensures ended { IfSome result (λ end. let setting = setting_of client.now (C.tells clock.now) F.alone turns in
         let after = state (F.known office.new) (L.left link.new) (L.out link.new) in
         (rest behind : List ℕ) → Begins rest request.now behind
-        → Comes setting (Finishes end setting rest after)
+        → EmitsOnLink setting (Finishes end setting rest after)
         (state (F.known office.old) (L.left link.old) (L.out link.old)) after) }
     ensures left { L.left link.new ≡ L.left link.old }
 
-    ensures reads { L.failed_reads link.new ≡ reads_so_far result (L.failed_reads link.old) }
-    ensures writes { L.failed_writes link.new ≡ writes_so_far result (L.failed_writes link.old) }
+    ensures reads { L.failed_reads link.new ≡ so_far reads_at result (L.failed_reads link.old) }
+    ensures writes { L.failed_writes link.new ≡ so_far writes_at result (L.failed_writes link.old) }
     ensures book { IsGrown (F.known office.new).seen (F.known office.old).seen }
     ensures backed { F.is_backed office.old → F.is_backed office.new }
     ensures clean { F.is_clean office.new → F.is_clean office.old }

@@ -47,7 +47,7 @@ impl<K: Keeper + Drop, R: RowStore> Solo<K, R> {
 }
 
 impl<K: Keeper + Drop, R: RowStore> Looks for Solo<K, R> {
-    ghost use Rattle.std.specs.Prelude.{true, [], None};
+    ghost use Rattle.std.specs.Prelude.{true, []};
     ghost use Rattle.alto_desk.specs.Records.{Backs};
 
     type Rows = R;
@@ -59,8 +59,7 @@ impl<K: Keeper + Drop, R: RowStore> Looks for Solo<K, R> {
       looks = solo.looks;
       waits = solo.waits;
       faults = solo.tally.count;
-      numbers = [];
-      waited = None;
+      looked_at = [];
     } };
 
     ghost is_backed = { λ solo.

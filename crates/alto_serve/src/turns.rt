@@ -5,8 +5,8 @@ ghost use Rattle.alto_book.specs.Book.{number_of};
 ghost use Rattle.alto_book.specs.declared.fault.EditFault.TheVariants as fault;
 ghost use Rattle.alto_answers.specs.Answers.{AnswersTo, BringsEdits, HasBytes};
 ghost use Rattle.alto_replies.specs.Reply.{IsReply};
-ghost use Rattle.alto_serve.specs.Events.{Emits, IsSubmitted, OneLook, PrefixOf, Submits};
-ghost use Rattle.alto_serve.specs.Steps.{Concludes, HasSettled, IsConcluded, RepliesWith, IsWaiting, is_pending};
+ghost use Rattle.alto_serve.specs.Events.{Emits, IsGrown, IsSubmitted, OneLook, PrefixOf, Submits};
+ghost use Rattle.alto_serve.specs.Steps.{Concludes, HasLooked, HasSettled, IsConcluded, RepliesWith, is_pending};
 ghost use Rattle.alto_serve.specs.Turns.{IsCutOff, IsMoment, TakesTurn, setting_of};
 
 use crate::clock::Clock;
@@ -39,6 +39,7 @@ pub(crate) fn answered<F: Office, C: Clock>(
     ensures err { OnErr result (Emits F.alone
         (IsCutOff (setting_of client.now (C.tells clock.now) F.alone turns) request.now)
         (F.known office.old) (F.known office.new)) }
+    ensures book { IsGrown (F.known office.new).seen (F.known office.old).seen }
     ensures backed { F.is_backed office.old → F.is_backed office.new }
     ensures clean { F.is_clean office.new → F.is_clean office.old }
 {
@@ -69,7 +70,8 @@ fn take_turn<F: Office, C: Clock>(
     conclude(alloc, office, clock, answer)
 }
 
-/// What a request comes to in the end: the next edge is looked for again after each wait, `turns` times at most.
+/// What a request comes to in the end: the next edge is looked for again after each wait, and waited for `turns` times
+/// at most.
 fn settled<F: Office>(
     alloc: Global,
     client: &Client,
@@ -82,23 +84,23 @@ fn settled<F: Office>(
         (F.known office.old) (F.known office.new)) }
     ensures edits { IfOk result BringsEdits }
     ensures replies { IfOk result HasBytes }
-    ensures err { OnErr result (Emits F.alone (PrefixOf (IsWaiting client.now request.now turns))
+    ensures err { OnErr result (Emits F.alone (PrefixOf (HasLooked client.now request.now turns))
         (F.known office.old) (F.known office.new)) }
     ensures backed { F.is_backed office.old → F.is_backed office.new }
     ensures clean { F.is_clean office.new → F.is_clean office.old }
 {
-    let mut look = look_at(alloc, client, office, request)?;
-    for _turn in 0..turns {
+    for _wait in 0..turns {
+        let look = look_at(alloc, client, office, request)?;
         if !is_pending(&look.answer) {
             return Ok(look.answer);
         }
         office.wait(look.number);
-        look = look_at(alloc, client, office, request)?;
     }
+    let look = look_at(alloc, client, office, request)?;
     Ok(look.answer)
 }
 
-/// Whether a request stays pending: its answer is the next edge.
+/// Whether a request stays pending: it asks for the edge that comes next.
 fn is_pending(answer: &Answer) -> bool
     ensures { result ≡ is_pending answer.now }
 {

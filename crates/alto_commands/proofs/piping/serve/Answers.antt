@@ -1,4 +1,4 @@
-use Rattle.std.proofs.Common.{[], None, refl}
+use Rattle.std.proofs.Common.{[], refl}
 use Rattle.alto_commands.proofs.PipeLemmas.{new_office, served_from}
 use Rattle.alto_commands.proofs.piping.serve.Goals as goal
 
@@ -12,8 +12,7 @@ returns-clause-served g c =
         looks = office.looks;
         waits = office.waits;
         faults = office.tally.count;
-        numbers = [];
-        waited = None;
+        looked_at = [];
       };
       served =
           served_from c.args.desk.ledger.book _ _ _ _ _ _ _ _ _

@@ -2,39 +2,30 @@ use Rattle.std.proofs.Common.{◌∙◌, ◌≡◌, true, ap, sym, take, None}
 use Rattle.alto_http.specs.Request.{RequestData}
 use Rattle.alto_http.specs.Link.{extended}
 use Rattle.alto_serve.specs.Connections.{state}
-use Rattle.alto_serve.proofs.EventLemmas.{emits_grown}
 use Rattle.alto_serve.proofs.StepLemmas.{memory_ends, reply_breaks, reply_closes, reply_out}
 use Rattle.alto_serve.proofs.serve.respond.Goals as goal
 
 pub returns-in_default-clause-ended : goal.returns-in_default-clause-ended
 returns-in_default-clause-ended g c =
-    λ rest behind begins. memory_ends c.out_of_memory.result _ _ (state _ None _) _ rest behind c.in_default.ensures.err c.out_of_memory.ensures.written begins
-
-pub returns-in_default-clause-book : goal.returns-in_default-clause-book
-returns-in_default-clause-book g c = emits_grown _ _ _ _ c.in_default.ensures.err
+    λ rest behind begins. memory_ends _ _ (state _ None _) _ rest behind begins c.out_of_memory.result
+    c.in_default.ensures.err c.out_of_memory.ensures.written
 
 pub returns-in-Err-clause-ended : goal.returns-in-Err-clause-ended
 returns-in-Err-clause-ended g c =
     let cut = c.in-Err.ensures.err in
-    λ rest behind begins. reply_breaks _ _ (state _ None _) _ _ cut.0 rest behind c.in-Ok.ensures.ok
-    (cut.2 ∙ ap (λ bytes. extended (g.L.Link.out c.args.link.now) (take cut.0 bytes)) c.deref.ensures.value) begins
-
-pub returns-in-Err-clause-book : goal.returns-in-Err-clause-book
-returns-in-Err-clause-book g c = emits_grown _ _ _ _ c.in-Ok.ensures.ok
+    λ rest behind begins. reply_breaks _ _ (state _ None _) _ rest behind begins _ cut.0 c.in-Ok.ensures.ok
+    (cut.2 ∙ ap (λ bytes. extended (g.L.Link.out c.args.link.now) (take cut.0 bytes)) c.deref.ensures.value)
 
 pub returns-in-Ok-write_all-clause-ended : goal.returns-in-Ok-write_all-clause-ended
 returns-in-Ok-write_all-clause-ended g c =
-    let closes : c.args.request.now.close ≡ true = ap (λ (r : RequestData). r.close) (sym c.request.view_is) ∙ c.if-request.true in
-    λ rest behind begins. reply_closes _ _ (state _ None _) _ _ rest behind closes c.in-Ok.ensures.ok
-    (c.in-Ok-write_all.ensures.ok ∙ ap (λ bytes. extended (g.L.Link.out c.args.link.now) bytes) c.deref.ensures.value) begins
-
-pub returns-in-Ok-write_all-clause-book : goal.returns-in-Ok-write_all-clause-book
-returns-in-Ok-write_all-clause-book g c = emits_grown _ _ _ _ c.in-Ok.ensures.ok
+    let closes : c.args.request.now.close ≡ true =
+    ap (λ (r : RequestData). r.close) (sym c.request.view_is) ∙ c.if-request.true in
+    λ rest behind begins. reply_closes _ _ (state _ None _) _ rest behind begins _ closes c.in-Ok.ensures.ok
+    (c.in-Ok-write_all.ensures.ok
+    ∙ ap (λ bytes. extended (g.L.Link.out c.args.link.now) bytes) c.deref.ensures.value)
 
 pub returns-clause-on : goal.returns-clause-on
 returns-clause-on g c =
     λ none. reply_out _ _ (state _ None _) (state _ None _) _ c.in-Ok.ensures.ok
-    (c.in-Ok-write_all.ensures.ok ∙ ap (λ bytes. extended (g.L.Link.out c.args.link.now) bytes) c.deref.ensures.value)
-
-pub returns-clause-book : goal.returns-clause-book
-returns-clause-book g c = emits_grown _ _ _ _ c.in-Ok.ensures.ok
+    (c.in-Ok-write_all.ensures.ok
+    ∙ ap (λ bytes. extended (g.L.Link.out c.args.link.now) bytes) c.deref.ensures.value)

@@ -1,20 +1,23 @@
 use Rattle.std.proofs.Common.{◌<◌, ◌≡◌, refl, ◌∙◌, arith}
 use Rattle.alto_serve.proofs.EventLemmas.{grown_itself, grown_on}
 use Rattle.alto_serve.specs.declared.end.End.TheVariants as end
-use Rattle.alto_serve.proofs.ConnectionLemmas.{served_more, served_most, served_none, served_to_end}
-use Rattle.alto_serve.proofs.WalkLemmas.{served_idle, served_walks}
+use Rattle.alto_serve.proofs.ConnectionLemmas.{served_more, served_most, served_never, served_none, served_to_end}
+use Rattle.alto_serve.proofs.WalkLemmas.{served_walks}
 use Rattle.alto_serve.proofs.serve.serve_conn.Goals as goal
 
 pub returns-in_default-clause-served : goal.returns-in_default-clause-served
-returns-in_default-clause-served g c = served_idle _ _ (g.L.Link.left c.args.link.now) _
+returns-in_default-clause-served g c =
+    served_walks end.Memory _ _ _ (served_never _ _ (g.L.Link.left c.args.link.now) _)
 
 pub returns-in_default-new-clause-served : goal.returns-in_default-new-clause-served
-returns-in_default-new-clause-served g c = served_idle _ _ (g.L.Link.left c.args.link.now) _
+returns-in_default-new-clause-served g c =
+    served_walks end.Memory _ _ _ (served_never _ _ (g.L.Link.left c.args.link.now) _)
 
 pub returns-in-Some-clause-served : goal.returns-in-Some-clause-served
 returns-in-Some-clause-served g c =
     let few : c.loop-count._count < 1000000 = omega arith in
-    served_walks _ _ _ _ (served_to_end _ _ _ _ _ _ few c.loop-count.invariant.served (rw c.in-Ok.ensures at c.in-Some.ensures.ended))
+    served_walks _ _ _ _ (served_to_end _ _ _ _ _ _ few c.loop-count.invariant.served
+    (rw c.in-Ok.ensures at c.in-Some.ensures.ended))
 
 pub returns-in-Some-clause-book : goal.returns-in-Some-clause-book
 returns-in-Some-clause-book g c = grown_on _ _ _ c.loop-count.invariant.book c.in-Some.ensures.book

@@ -13,7 +13,7 @@ abbrev pub invariant-loop-count : goal.invariant-loop-count
 invariant-loop-count g l =
     let setting = setting_of (client_of l.fn.side l.fn.peer) (g.C.Clock.tells l.fn.clock) g.F.Looks.alone l.fn.turns in
     record {
-      served : Becomes setting (λ bytes. HasServed setting bytes l._count)
+      served : Becomes setting (HasServed setting l._count)
           (state (g.F.Looks.known l.fn.office) (g.L.Link.left l.fn.link) (g.L.Link.out l.fn.link))
           (state (g.F.Looks.known l.office) (followed_by l.intake (g.L.Link.left l.link)) (g.L.Link.out l.link));
       reads : g.L.Link.failed_reads l.link ≡ g.L.Link.failed_reads l.fn.link;

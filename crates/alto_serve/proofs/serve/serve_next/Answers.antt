@@ -5,17 +5,18 @@ use Rattle.alto_serve.proofs.serve.serve_next.Goals as goal
 pub returns-in-Ok-Some-clause-on : goal.returns-in-Ok-Some-clause-on
 returns-in-Ok-Some-clause-on g c =
     let begins = rw c.in-Ok-Some.field-0-is at c.in-Ok-Some.ensures.request in
-    λ none. respond_on _ _ _ _ _ _ _ _ _ _ _ c.read_request.ensures.out c.respond.ensures.left (c.respond.ensures.stays none) begins (c.respond.ensures.on none)
+    λ none. respond_on _ _ _ _ _ _ _ _ c.read_request.ensures.out begins _ _ _ c.respond.ensures.left
+    (c.respond.ensures.stays none) (c.respond.ensures.on none)
 
 pub returns-in-Ok-Some-clause-ended : goal.returns-in-Ok-Some-clause-ended
 returns-in-Ok-Some-clause-ended g c =
     let begins = rw c.in-Ok-Some.field-0-is at c.in-Ok-Some.ensures.request in
-    respond_ends _ _ _ _ _ _ _ _ _ _ c.read_request.ensures.out begins c.respond.ensures.ended
+    respond_ends _ _ _ _ _ _ _ _ c.read_request.ensures.out begins _ _ c.respond.ensures.ended
 
 pub returns-in-Err-clause-ended : goal.returns-in-Err-clause-ended
 returns-in-Err-clause-ended g c =
-    refuse_ends _ _ _ _ _ _ _ _ _ _ _ c.in-Err.ensures.refused (λ e. c.in-Err.ensures.cut (cc)) (λ e. c.in-Err.ensures.unfinished (cc)) c.refuse.ensures.left
-    c.read_request.ensures.out c.refuse.ensures.written
+    refuse_ends _ _ _ _ _ _ _ _ _ c.refuse.ensures.left c.read_request.ensures.out _ _ c.in-Err.ensures.refused
+    (λ e. c.in-Err.ensures.cut (cc)) (λ e. c.in-Err.ensures.unfinished (cc)) c.refuse.ensures.written
 
 pub returns-in-Ok-None-clause-ended : goal.returns-in-Ok-None-clause-ended
 returns-in-Ok-None-clause-ended g c =

@@ -5,7 +5,8 @@ use Rattle.alto_serve.proofs.turns.conclude.Goals as goal
 
 pub returns-in-Hold-clause-err : goal.returns-in-Hold-clause-err
 returns-in-Hold-clause-err g c =
-    let is : answer.Hold c.in-Hold.resource c.in-Hold.i c.in-Hold.j ≡ c.args.answer = cc in on_err_anyhow _ (hold_lost _ _ _ _ _ _ _ is)
+    let is : answer.Hold c.in-Hold.resource c.in-Hold.i c.in-Hold.j ≡ c.args.answer = cc in
+    on_err_anyhow _ (hold_lost _ _ _ _ _ _ _ is)
 
 pub returns-in_err-outcome-in-Edit-clause-err : goal.returns-in_err-outcome-in-Edit-clause-err
 returns-in_err-outcome-in-Edit-clause-err g c =
@@ -18,4 +19,4 @@ pub returns-clause-err : goal.returns-clause-err
 returns-clause-err g c =
     let is : answer.Edit c.in-Edit.command ≡ c.args.answer = cc in
     let told = c.in_ok-outcome-in-Edit.ensures.decided in
-    on_err_anyhow _ (reply_lost _ _ _ _ _ _ told.0 _ is told.1 told.2)
+    on_err_anyhow _ (reply_lost _ _ _ _ _ _ told.0 is told.1 _ told.2)

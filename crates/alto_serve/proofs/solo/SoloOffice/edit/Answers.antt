@@ -3,16 +3,16 @@ use Rattle.alto_serve.proofs.solo.SoloOffice.edit.Goals as goal
 
 pub returns-clause-answered : goal.returns-clause-answered
 returns-clause-answered g c =
-    λ known. solo_submits c.edit.result _ _ _ _ _ _ _ _ _ c.edit.ensures.legal c.requires c.saturating_add-self.ensures
-    c.edit.ensures.tally c.edit.ensures.ok c.edit.ensures.accepted c.edit.ensures.err c.edit.ensures.unchanged known
+    solo_submits _ _ _ _ _ _ _ _ _ c.edit.ensures.legal c.saturating_add-self.ensures c.edit.result c.requires
+    c.edit.ensures.tally c.edit.ensures.ok c.edit.ensures.accepted c.edit.ensures.err c.edit.ensures.unchanged
 
 pub returns-clause-lost : goal.returns-clause-lost
 returns-clause-lost g c =
-    λ out. solo_lost c.edit.result _ _ _ _ _ _ _ _ _ c.edit.ensures.legal c.saturating_add-self.ensures
-    c.edit.ensures.tally c.edit.ensures.unchanged out
+    solo_lost _ _ _ _ _ _ _ _ _ c.edit.ensures.legal c.saturating_add-self.ensures c.edit.result
+    c.edit.ensures.tally c.edit.ensures.unchanged
 
 pub returns-clause-stays : goal.returns-clause-stays
-returns-clause-stays g c = λ out. solo_stays c.edit.result _ _ c.edit.ensures.legal c.edit.ensures.unchanged out
+returns-clause-stays g c = solo_stays c.edit.result _ _ c.edit.ensures.legal c.edit.ensures.unchanged
 
 pub returns-clause-backed : goal.returns-clause-backed
 returns-clause-backed g c = λ backed clean. c.edit.ensures.kept clean (backed (c.edit.ensures.clean clean))
