@@ -7,11 +7,12 @@ use alto_hub::{Hub, IdleBell, Naming, NewHistory, Place, Seat};
 use alto_keeper::{Keeper, MemKeeper};
 use alto_names::{Epoch, ImportId, NetName};
 use alto_serve::{Looks, Office};
+use alto_versions::Front;
 use row_chunks::Chunks;
-use std::alloc::Global;
+use std::alloc::{AllocError, Global};
 use std::marker::Brand;
 use std::process::Abort;
-use std::sync::Wait;
+use std::sync::{Arc, Wait};
 use std::test::*;
 use std::thread::{Threads, join};
 
@@ -68,6 +69,15 @@ fn import<R: Wait, W: Wait + Drop, J: Naming>(
     Some(receipt.n)
 }
 
+/// Looks from a seat. Nothing that these bounds allow can be locked or waited for, so this compiles only while a look
+/// needs neither.
+fn look<H, B, K, L, J: Naming>(
+    seat: &mut Seat<'_, H, B, K, L, J>,
+    alloc: Global,
+) -> Result<Arc<Front<Chunks>>, AllocError> {
+    seat.front(alloc)
+}
+
 /// Looks from a seat until a batch is published, and gives its number.
 fn wait_for_it<R: Wait, W: Wait + Drop, J: Naming>(
     rt: &R,
@@ -78,7 +88,7 @@ fn wait_for_it<R: Wait, W: Wait + Drop, J: Naming>(
     let bell = IdleBell;
     let mut seat = Seat::new(rt, hub, place, &bell);
     for _ in rt.forever() {
-        let front = seat.front(alloc).ok()?;
+        let front = look(&mut seat, alloc).ok()?;
         if front.n > 0 {
             return Some(front.n);
         }
