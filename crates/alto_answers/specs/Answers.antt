@@ -100,7 +100,8 @@ PlaceAnswers (Some place.Tips) request book peer given =
     given ≡ tips_answer request.verb request.content_type book request.host request.body
 PlaceAnswers (Some place.Edge) request book peer given =
     let path = path_of request.target in
-    given ≡ edges_answer request.verb book (patch_form request.accept) (segment path 2) (segment path 4) (segment path 5)
+    given
+    ≡ edges_answer request.verb book (patch_form request.accept) (segment path 2) (segment path 4) (segment path 5)
 PlaceAnswers (Some place.Edits) request book peer given =
     EditsAnswer request.verb request.content_type (segment (path_of request.target) 2) request.body given
 

@@ -1,6 +1,7 @@
 -- Queries of a network by a body: filtered maps (RFC 7285, section 11.3; RFC 8189, section 4.1; RFC 9240, section 8),
 -- costs between addresses (RFC 7285, section 11.5) and path vectors (RFC 9275, section 7.2).
-use Rattle.std.specs.Prelude.{◌≡◌, ℕ, List, Bool, true, false, Option, Some, None, Result, Ok, Err, if◌then◌else◌, codes}
+use Rattle.std.specs.Prelude.{◌≡◌, ℕ, List, Bool, true, false, Option, Some, None, Result, Ok, Err, if◌then◌else◌}
+use Rattle.std.specs.Prelude.{codes}
 use Rattle.serde_json.specs.Data.{Data}
 use Rattle.alto_addr.specs.declared.addr.Addr.{Addr}
 use Rattle.alto_names.specs.declared.label.NameFault.{NameFault}
@@ -33,7 +34,8 @@ use Rattle.alto_answers.specs.declared.outcome.Answer.TheVariants as answer
 use Rattle.alto_answers.specs.declared.route.Query.{Query}
 use Rattle.alto_answers.specs.declared.route.Query.TheVariants as query
 use Rattle.alto_answers.specs.Forms.{has_type}
-use Rattle.alto_answers.specs.Types.{cost_map_type, endpoint_cost_type, network_map_type, path_vector_type, property_map_type}
+use Rattle.alto_answers.specs.Types.{cost_map_type, endpoint_cost_type, network_map_type, path_vector_type}
+use Rattle.alto_answers.specs.Types.{property_map_type}
 
 -- a name, where a network of this name is declared
 abbrev pub declared_net : Rows → Result (List ℕ) NameFault → Option (List ℕ)
@@ -80,7 +82,8 @@ abbrev pub Queried : Query → Seen → List ℕ → Data → Result ReplyData A
 Queried query.NetworkMap seen net value given =
     given ≡ (net_ask value >>= λ ask. Ok (document_reply network_map_type (filtered_network seen.rows net ask)))
 Queried query.CostMap seen net value given =
-    given ≡ (cost_ask seen.rows net value >>= λ ask. Ok (document_reply cost_map_type (filtered_costs seen.rows net ask)))
+    given ≡ (cost_ask seen.rows net value >>= λ ask.
+    Ok (document_reply cost_map_type (filtered_costs seen.rows net ask)))
 Queried query.EndpointCosts seen net value given =
     (asked : Result EndAskData AskFault) × ReadsEndAsk seen.rows net value asked
     × (given ≡ (asked >>= λ ask. Ok (document_reply endpoint_cost_type (endpoint_costs seen.rows net ask seen.peer))))

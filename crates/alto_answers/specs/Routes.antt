@@ -1,5 +1,6 @@
 -- The routes of each side, as the crate matchit reads and finds them.
-use Rattle.std.specs.Prelude.{ℕ, Bool, false, List, [], ◌∷◌, ◌++◌, fold, length, Option, None, option_map, is_none, Result, Ok, Err, if◌then◌else◌, codes, ◌==◌}
+use Rattle.std.specs.Prelude.{ℕ, Bool, false, List, [], ◌∷◌, ◌++◌, fold, length, Option, None, option_map, is_none}
+use Rattle.std.specs.Prelude.{Result, Ok, Err, if◌then◌else◌, codes, ◌==◌}
 use Rattle.std.specs.Str.Lossy.{utf8_valid_len}
 use Rattle.matchit.specs.Order.{placed}
 use Rattle.matchit.specs.Route.{Scan, parse_route}

@@ -8,8 +8,8 @@ use crate::types::{JSON_PATCH, MERGE_PATCH};
 use alto_http::Request;
 use edge_patch::PatchForm;
 
-/// The form in which a request takes patches, by its Accept field (RFC 9110, section 12.5.1): operations, where they are listed and
-/// merge patches aren't; else a merge patch. Parameters don't count, weights neither.
+/// The form in which a request takes patches, by its Accept field (RFC 9110, section 12.5.1): operations, where they
+/// are listed and merge patches aren't; else a merge patch. Parameters don't count, weights neither.
 pub(crate) fn patch_form(request: &Request) -> PatchForm
     ensures { result ≡ patch_form request.now.accept }
 {

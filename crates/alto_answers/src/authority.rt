@@ -1,5 +1,7 @@
 ghost use Rattle.std.specs.Prelude.{◌≡◌, IsTrue, ◌&&◌, nat_le, length};
-ghost use Rattle.alto_answers.specs.Authority.{is_host_byte, is_address_byte, is_name, is_address, is_port, follows_host, follows_address, is_named, is_bracketed, is_authority, authority_in, authority_of};
+ghost use Rattle.alto_answers.specs.Authority.{is_host_byte, is_address_byte, is_name, is_address, is_port};
+ghost use Rattle.alto_answers.specs.Authority.{follows_host, follows_address, is_named, is_bracketed, is_authority};
+ghost use Rattle.alto_answers.specs.Authority.{authority_in, authority_of};
 
 use crate::bytes::place_of;
 use alto_http::Request;

@@ -3,7 +3,8 @@ ghost use Rattle.json_tree.specs.Tree.{data_of};
 ghost use Rattle.tips_graph.specs.Graph.{first_of, last_of};
 ghost use Rattle.alto_asks.specs.Asks.{required_text, wrong_text};
 ghost use Rattle.alto_answers.specs.Opening as spec;
-ghost use Rattle.alto_answers.specs.Opening.{resource_field, held_number, edge_data, graph_summary, view_summary, view_data, view_uri, opened};
+ghost use Rattle.alto_answers.specs.Opening.{resource_field, held_number, edge_data, graph_summary, view_summary};
+ghost use Rattle.alto_answers.specs.Opening.{view_data, view_uri, opened};
 ghost use Rattle.alto_replies.specs.Reply.{IsReply};
 
 use crate::authority::authority_of;

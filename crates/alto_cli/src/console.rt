@@ -62,8 +62,8 @@ impl<I: Read + Drop, O: Write + Drop> Link for Console<I, O> {
         }
     }
 
-    /// What is put out is what the output takes, where it tells its bytes. A write that takes nothing of a nonempty piece
-    /// is a fault.
+    /// What is put out is what the output takes, where it tells its bytes. A write that takes nothing of a nonempty
+    /// piece is a fault.
     fn write(&mut self, piece: &[u8]) -> Result<usize, Failed>
         ensures bytes { WriteAppends (O.contents self.old.output) (O.contents self.new.output) result piece.now }
         ensures input { self.new.input ≡ self.old.input }

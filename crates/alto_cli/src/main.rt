@@ -1,5 +1,5 @@
-//! `alto`: the server as a program. `run` is the whole of it over any vault, console, doors, bell and clock; `main` gives it
-//! the real ones.
+//! `alto`: the server as a program. `run` is the whole of it over any vault, console, doors, bell and clock; `main`
+//! gives it the real ones.
 #![tactic(auto)]
 
 mod console;
@@ -44,8 +44,8 @@ fn main(rt: HostRuntime) -> ExitCode {
     ExitCode::from(status)
 }
 
-/// Runs the program on its arguments, as `run` does on its words, and gives the status: 1 where memory ran out before the
-/// words were read.
+/// Runs the program on its arguments, as `run` does on its words, and gives the status: 1 where memory ran out before
+/// the words were read.
 fn run_on<
     H: Threads + Wait + Sync,
     V: Vault<Keeper: Send>,

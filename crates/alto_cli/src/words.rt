@@ -5,8 +5,8 @@ use std::alloc::{AllocError, Global};
 use std::env::Args;
 use std::io;
 
-/// The words behind the program's name, which is the first of its arguments. An argument that isn't UTF-8 is no word of the
-/// grammar: then there are no words, and they are outside it.
+/// The words behind the program's name, which is the first of its arguments. An argument that isn't UTF-8 is no word of
+/// the grammar: then there are no words, and they are outside it.
 pub fn words_of(alloc: Global, arguments: io::Result<Args>) -> Result<Vec<Name>, AllocError>
     ensures words { IfOk arguments (λ all. IfOk result (λ words.
         words.items ≡ map string_bytes (drop 1 all.rest.items))) }

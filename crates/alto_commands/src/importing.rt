@@ -26,8 +26,8 @@ use std::alloc::Global;
 /// What is printed of a body that has more bytes than it may have.
 const TOO_LARGE: &[u8] = b"body too large\n";
 
-/// Has the edits of a body, which is what the console has left, accepted into the book of a store, and tells what became
-/// of them. A receipt is printed once the batch is kept.
+/// Has the edits of a body, which is what the console has left, accepted into the book of a store, and tells what
+/// became of them. A receipt is printed once the batch is kept.
 pub fn import<V: Vault, L: Link, C: Clock>(
     alloc: Global,
     vault: &mut V,
@@ -106,7 +106,8 @@ fn read_command<L: Link>(
     })
 }
 
-/// Tells what became of an import, and gives the status: 3 exactly where a keeper counted a fault, 4 exactly where a read failed.
+/// Tells what became of an import, and gives the status: 3 exactly where a keeper counted a fault, 4 exactly where a
+/// read failed.
 fn say_answer<L: Link>(alloc: Global, console: &mut L, answer: Result<Receipt, ImportFault>) -> u8
     ensures told { Tells (import_report answer) result (L.out console.old) (L.out console.new) }
     ensures faults { (n : ℕ) → faults_after answer n ≡ faults_at result n }

@@ -14,7 +14,8 @@ use row_chunks::Chunks;
 use std::alloc::Global;
 
 /// Serves the console, as one connection of a client and of the operator, from the book of a store, which keeps what is
-/// imported. The next edge is waited for `turns` times at most, and no wait takes time: nobody else has imports accepted.
+/// imported. The next edge is waited for `turns` times at most, and no wait takes time: nobody else has imports
+/// accepted.
 pub fn pipe<V: Vault, L: Link, C: Clock>(
     alloc: Global,
     vault: &mut V,

@@ -52,7 +52,8 @@ pub fn show<V: Vault, L: Link>(
 
 /// Prints the line with a document, where there is one.
 fn say_document<L: Link>(console: &mut L, text: Option<Vec<u8>>) -> u8
-    ensures told { (named : Option (List ℕ)) → option_map (λ text. text.items) text ≡ option_map (λ text. text ++ line_end) named
+    ensures told { (named : Option (List ℕ))
+        → option_map (λ text. text.items) text ≡ option_map (λ text. text ++ line_end) named
         → Tells (show_report named) result (L.out console.old) (L.out console.new) }
     ensures no_fault { result ≢ 3 }
     ensures writes { L.failed_writes console.new ≡ writes_at result (L.failed_writes console.old) }

@@ -13,8 +13,8 @@ use alto_http::Link;
 use alto_keeper::Vault;
 use std::alloc::Global;
 
-/// Moves the base of a store's book on, so that only the last `keep` batches stay beside it, and tells its number. It is
-/// told once the store is as it says.
+/// Moves the base of a store's book on, so that only the last `keep` batches stay beside it, and tells its number. It
+/// is told once the store is as it says.
 pub fn trim<V: Vault, L: Link>(
     alloc: Global,
     vault: &mut V,

@@ -1,4 +1,5 @@
-ghost use Rattle.std.specs.Prelude.{◌≡◌, ◌≢◌, ◌⊎◌, ◌+◌, ◌<◌, ◌^◌, ◌≤ℤ◌, pos, All, Err, IfErr, IfOk, None, Ok, OnErr, OnOk, length, map};
+ghost use Rattle.std.specs.Prelude.{◌≡◌, ◌≢◌, ◌⊎◌, ◌+◌, ◌<◌, ◌^◌, ◌≤ℤ◌, pos, All, Err, IfErr, IfOk, None, Ok, OnErr};
+ghost use Rattle.std.specs.Prelude.{OnOk, length, map};
 ghost use Rattle.std.specs.Arc.{arc_value};
 ghost use Rattle.alto_edits.specs.Edits.{IsEdit};
 ghost use Rattle.alto_book.specs.Acceptance.{accept, known};
@@ -88,9 +89,9 @@ impl<K: Keeper + Drop, R: RowStore> Desk<K, R> {
         keeper
     }
 
-    /// Accepts an import whole, or refuses it and leaves the book as it was. One that is known gets its receipt again. A
-    /// batch is in the book exactly where the keeper took it: its version is made, and there is room for it, before the
-    /// keeper is called.
+    /// Accepts an import whole, or refuses it and leaves the book as it was. One that is known gets its receipt again.
+    /// A batch is in the book exactly where the keeper took it: its version is made, and there is room for it, before
+    /// the keeper is called.
     ///
     /// Costs what `compile` and the store's `with` cost, one look at each receipt and batch, two searches for each
     /// declared resource, whose graph the next version shares, a look at each write for each network, a range table

@@ -1,5 +1,6 @@
 -- Which door in memory is opened at a side and an address.
-use Rattle.std.specs.Prelude.{◌≡◌, ℕ, Bool, List, [], ◌∷◌, ◌++◌, string_bytes, Option, MatchOption, IsSomeAnd, slice_get, remove}
+use Rattle.std.specs.Prelude.{◌≡◌, ℕ, Bool, List, [], ◌∷◌, ◌++◌, string_bytes, Option, MatchOption, IsSomeAnd}
+use Rattle.std.specs.Prelude.{slice_get, remove}
 use Rattle.std.specs.List.{position_from}
 use Rattle.alto_addr.specs.declared.addr.Addr.{Addr}
 use Rattle.alto_answers.specs.declared.route.Side.{Side}

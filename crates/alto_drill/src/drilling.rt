@@ -14,8 +14,8 @@ use alto_rows::{Resource, RowStore};
 use row_chunks::Chunks;
 use std::alloc::{AllocError, Global};
 
-/// Makes a book of so many batches by a number, and tries each edge that is available of its three resources: one from 0
-/// is read, and each other one is made in both forms of patch, and applied to the document at its beginning.
+/// Makes a book of so many batches by a number, and tries each edge that is available of its three resources: one from
+/// 0 is read, and each other one is made in both forms of patch, and applied to the document at its beginning.
 ///
 /// Costs what the batches cost to be accepted, and for each pair of kept numbers a few documents. Takes no more memory
 /// than the book, the bodies and three documents.

@@ -3,7 +3,8 @@ ghost use Rattle.std.specs.Prelude.{◌≡◌, ◌≤◌, [], ◌∷◌, ◌++�
 ghost use Rattle.alto_rows.specs.declared.entity.Entity.TheVariants as entity;
 ghost use Rattle.alto_edits.specs.declared.edit.Edit.TheVariants as edit;
 ghost use Rattle.alto_edits.specs.declared.edit.PropValue.TheVariants as property;
-ghost use Rattle.alto_drill.specs.Imports.{later_edits, metric_name, net_name, opening_edits, pid_name, prefix_of, property_name, renewal_edits};
+ghost use Rattle.alto_drill.specs.Imports.{later_edits, metric_name, net_name, opening_edits, pid_name, prefix_of};
+ghost use Rattle.alto_drill.specs.Imports.{property_name, renewal_edits};
 
 use crate::choice::Choice;
 use crate::names::{metric, net, pid, property};

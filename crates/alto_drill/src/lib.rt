@@ -4,9 +4,9 @@
 //!
 //! ```text
 //! number ── draws ──▶ choice ── edits ──▶ import ── Desk::edit ──▶ Front ── Graph::status, span ──▶ edges
-//!                                                                                                    │ each in both forms
-//! batches 40 edges 57 failed 0        ◀── count what differs ── apply ── read back ── text ◀─────────┤
-//! map 1d1785e1948f73c54a7f29232aaf..  ◀── SHA-256 of all bodies ─────────────────────────────────────╯
+//!                                                                                   each in both forms │
+//! batches 40 edges 57 failed 0        ◀── count what differs ── apply ── read back ── text ◀───────────┤
+//! map 1d1785e1948f73c54a7f29232aaf..  ◀── SHA-256 of all bodies ───────────────────────────────────────╯
 //! ```
 #![tactic(auto)]
 

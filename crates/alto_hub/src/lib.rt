@@ -8,8 +8,8 @@
 //! ```
 //!
 //! What all threads agree on is the history of the hub: the imports that were answered since it was opened, in one
-//! order. It exists in proofs alone. A published version has a mark of how far it was reached, and so has the desk under
-//! its lock.
+//! order. It exists in proofs alone. A published version has a mark of how far it was reached, and so has the desk
+//! under its lock.
 #![tactic(auto)]
 
 mod bell;

@@ -68,7 +68,8 @@ impl<W: Wait + Drop, K: Keeper + Drop, J: Naming> Hub<W, K, J> {
     }
 
     /// The desk again, once nobody reads a version from a place. Its book came from the opening one by imports. Where
-    /// nothing has put in doubt what is kept, nothing had when the hub was opened, and it stands for the book if it did then.
+    /// nothing has put in doubt what is kept, nothing had when the hub was opened, and it stands for the book if it did
+    /// then.
     pub fn into_desk(self) -> Desk<K, Chunks>
         ensures grown { IsGrown result.ledger.book J.opening }
         ensures backed { K.is_clean result.keeper

@@ -35,8 +35,8 @@ pub struct Plan<'a> {
     pub turns: u32,
 }
 
-/// Serves the store to the connections of both sides, until each door has ended. Status 0 where all have, 6 where one couldn't
-/// be opened or has counted a fault, 1 out of memory; 3 and 9 where the store has no book.
+/// Serves the store to the connections of both sides, until each door has ended. Status 0 where all have, 6 where one
+/// couldn't be opened or has counted a fault, 1 out of memory; 3 and 9 where the store has no book.
 pub fn serve<
     H: Threads + Wait + Sync,
     V: Vault<Keeper: Send>,
