@@ -13,7 +13,9 @@ time counts. Each try of imports has a new store; the other tries of a program a
 are short. A ratio is PROGRAM's time by that of the other program.
 
 growth: how far an import of one cost depends on the book: the time of one of 500 imports into each of three books, with its ratio
-to that into the smallest, and the memory of the process (VmRSS) with the largest book, and after 32 versions more.
+to that into the smallest, and the memory of the process (VmRSS) with the largest book, and after 32 versions more. Where gdb is there,
+also the bytes that are allocated: of the store with its imports, and of one whose base has taken them in, with and without the texts of
+its maps.
 
 opening: the seconds from the program's start to its first reply, over stores of an eighth, a quarter and a half of the imports and rows
 that a store keeps, and of all of them; the processor's seconds, which other work on the machine hardly changes; and the most memory that
@@ -25,6 +27,7 @@ import fcntl
 import os
 import re
 import shlex
+import shutil
 import subprocess
 import sys
 import tempfile
@@ -57,7 +60,8 @@ class Run:
             folder = self.folder or begun(self.program, ending.enter_context(tempfile.TemporaryDirectory()))
             pipes = {"stdin": subprocess.PIPE, "stdout": subprocess.PIPE}
             words = [self.program[0], "pipe", "x", *self.program[1:]]
-            self.process = ending.enter_context(subprocess.Popen(words, cwd=folder, bufsize=0, **pipes))
+            self.told = ending.enter_context(tempfile.TemporaryFile())
+            self.process = ending.enter_context(subprocess.Popen(words, cwd=folder, bufsize=0, stderr=self.told, **pipes))
             ending.callback(self.process.kill)
             for stream in self.process.stdin, self.process.stdout:
                 fcntl.fcntl(stream, fcntl.F_SETPIPE_SZ, PIPE)
@@ -123,6 +127,14 @@ class Run:
             return int(re.search(rf"^{name}:\s*(\d+) kB$", status.read(), re.MULTILINE).group(1)) / 1024
 
 
+    def allocated(self):
+        """The bytes that the process has allocated and not freed, in MB of 2^20 bytes: what the C library tells where gdb asks it."""
+        asked = "gdb", "-p", str(self.process.pid), "-batch", "-ex", "call (void) malloc_stats()"
+        subprocess.run(asked, stdout=subprocess.DEVNULL, stderr=subprocess.DEVNULL, check=True)
+        self.told.seek(0)
+        return int(re.findall(rb"in use bytes +=\s+(\d+)", self.told.read())[-1]) / 2**20
+
+
 def begun(program, folder):
     """Begins a store in a folder, and gives the folder."""
     words = [program[0], "init", "x", "--epoch", "e1", "--window", "8"]
@@ -180,6 +192,25 @@ def print_growth(program, rounds):
     print(f"{'memory':<38}{'MB':>20}  ratio")
     print(f"{f'{count:,} costs':<38}{before:>20.1f}{1:>7.2f}")
     print(f"{'and 32 versions more':<38}{after:>20.1f}{after / before:>7.2f}", flush=True)
+    if shutil.which("gdb"):
+        print_allocated(program, count)
+
+
+def print_allocated(program, count):
+    """Prints what a store of so many costs has allocated, with its imports and once its base has taken them in."""
+    with tempfile.TemporaryDirectory() as folder:
+        begun(program, folder)
+        with Run(program, workloads.book(count), folder) as run:
+            imported = run.allocated()
+        subprocess.run([program[0], "trim", "x", "--keep", "0"], cwd=folder, stdout=subprocess.DEVNULL, check=True)
+        with Run(program, folder=folder) as run:
+            maps = "metro", *(f"metro:cost:{metric}" for metric in workloads.METRICS)
+            text = sum(len(run.replies([workloads.get(f"/maps/{name}")])) for name in maps)
+            based = run.allocated()
+    rows = based - text / 2**20
+    print(f"{'allocated':<38}{'MB':>20}  bytes a cost")
+    for name, size in (("with the imports", imported), ("in the base, with texts", based), ("in the base, without texts", rows)):
+        print(f"{name:<38}{size:>20.1f}{size * 2**20 / count:>14.0f}", flush=True)
 
 
 def print_opening(program, rounds):
