@@ -13,7 +13,8 @@ IsAddrFault text (BadText place) = ¬ (IsAnyAddr text) × IsLongestFront IsAnyAd
 IsAddrFault text BadLength = ⊥
 IsAddrFault text HostBits = ⊥
 
--- the first of three: the text writes no address and length, the address hasn't so many bits, a bit past them isn't zero
+-- the first of three: the text writes no address and length, the address hasn't so many bits, a bit past them isn't
+-- zero
 abbrev pub IsPrefixFault : List ℕ → AddrFault → Type 0
 IsPrefixFault text (BadText place) = ¬ (IsAnyPrefix text) × IsLongestFront IsAnyPrefix text place
 IsPrefixFault text BadLength = (addr : Addr) × (len : ℕ) × IsPrefixText text addr len × ¬ (HasLength addr len)

@@ -1,4 +1,5 @@
--- The grammar of addresses from the left: what may follow when so many numbers or groups may still come (RFC 4291, section 2.2).
+-- The grammar of addresses from the left: what may follow when so many numbers or groups may still come (RFC 4291,
+-- section 2.2).
 use Rattle.std.specs.Prelude.{ℕ, zero, suc, List}
 use Rattle.alto_addr.specs.Languages.{Sequence, Behind, Either, Nothing}
 use Rattle.alto_addr.specs.Tokens.{IsOctet, IsGroup}
@@ -30,7 +31,8 @@ TailUpTo (suc n) = Either Nothing (TailGroups n)
 abbrev pub GroupThen : ℕ → (List ℕ → Type 0) → List ℕ → Type 0
 GroupThen n Next = Sequence IsGroup (Behind colon (Either (Behind colon (TailUpTo n)) Next))
 
--- a group, and n more with a colon before each, some of which `::` may stand for: an IPv4 text may stand for the last two
+-- a group, and n more with a colon before each, some of which `::` may stand for: an IPv4 text may stand for the last
+-- two
 unfoldable pub HeadGroups : ℕ → List ℕ → Type 0
 HeadGroups zero = IsGroup
 HeadGroups (suc zero) = Either (GroupThen zero IsGroup) (Octets 3)

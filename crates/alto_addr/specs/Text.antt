@@ -1,5 +1,7 @@
--- The texts that write an address (RFC 4291, section 2.2), and the one text that is written for each (RFC 5952, section 4).
-use Rattle.std.specs.Prelude.{◌≡◌, ℕ, ◌+◌, ◌*◌, ◌/◌, ◌%◌, ◌^◌, ◌<◌, ◌≤◌, List, [], ◌∷◌, ◌++◌, length, take, drop, replicate, decimal, codes}
+-- The texts that write an address (RFC 4291, section 2.2), and the one text that is written for each (RFC 5952, section
+-- 4).
+use Rattle.std.specs.Prelude.{◌≡◌, ℕ, ◌+◌, ◌*◌, ◌/◌, ◌%◌, ◌^◌, ◌<◌, ◌≤◌, List, [], ◌∷◌, ◌++◌, length, take, drop}
+use Rattle.std.specs.Prelude.{replicate, decimal, codes}
 use Rattle.std.specs.Net.Grammar.{IsDotted, IsColonHex}
 use Rattle.std.specs.Net.Text.{ipv4_text, groups_text, hex_groups_text}
 use Rattle.alto_addr.specs.declared.addr.Addr.{Addr}

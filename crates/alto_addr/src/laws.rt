@@ -20,7 +20,8 @@ pub fn text_writes_one_prefix()
         → (one ≡ other) × (len ≡ size) }
 {}
 
-/// What is written of an address reads as that address. So what is written of it is the same whichever of its texts was read.
+/// What is written of an address reads as that address. So what is written of it is the same whichever of its texts was
+/// read.
 pub fn address_reads_as_written()
     ensures { (addr : Addr) → HasBits addr → IsAddrText (addr_text addr) addr }
 {}

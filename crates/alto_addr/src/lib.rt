@@ -1,4 +1,5 @@
-//! Addresses and prefixes of IPv4 and IPv6 (RFC 4291): read from text, written in one form each (RFC 5952), and compared bit by bit.
+//! Addresses and prefixes of IPv4 and IPv6 (RFC 4291): read from text, written in one form each (RFC 5952), and
+//! compared bit by bit.
 #![tactic(auto)]
 
 mod addr;

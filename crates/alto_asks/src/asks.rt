@@ -1,7 +1,8 @@
 ghost use Rattle.std.specs.Prelude.{◌≡◌, ◌≢◌, Ok, Err, IfOk, IfErr, is_some, option_map, map};
 ghost use Rattle.serde_json.specs.Find.{as_array, as_object, as_str};
 ghost use Rattle.json_tree.specs.Tree.{data_of, items_data};
-ghost use Rattle.alto_asks.specs.Asks.{ask_of, object_or_fault, text_in, texts_of, items_in, required_text, required_items, optional_text, optional_items};
+ghost use Rattle.alto_asks.specs.Asks.{ask_of, object_or_fault, text_in, texts_of, items_in, required_text};
+ghost use Rattle.alto_asks.specs.Asks.{required_items, optional_text, optional_items};
 
 use crate::fault::AskFault;
 use json_tree::{Tree, TreeFault, read};

@@ -1,4 +1,5 @@
-//! The bodies of asks: objects of JSON, their fields, and what is told of those that are at fault (RFC 7285, section 8.5.2).
+//! The bodies of asks: objects of JSON, their fields, and what is told of those that are at fault (RFC 7285, section
+//! 8.5.2).
 #![tactic(auto)]
 
 mod asks;

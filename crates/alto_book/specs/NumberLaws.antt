@@ -1,5 +1,6 @@
 -- What holds of the numbers that batches give resources: the statements of the laws.
-use Rattle.std.specs.Prelude.{◌≡◌, ℕ, ◌+◌, ◌-◌, ◌≤◌, ◌<◌, true, false, List, [], length, take, drop, Option, Some, None, slice_get}
+use Rattle.std.specs.Prelude.{◌≡◌, ℕ, ◌+◌, ◌-◌, ◌≤◌, ◌<◌, true, false, List, [], length, take, drop, Option, Some, None}
+use Rattle.std.specs.Prelude.{slice_get}
 use Rattle.std.specs.List.{flat_map}
 use Rattle.alto_rows.specs.declared.key.Key.TheVariants as key
 use Rattle.alto_rows.specs.declared.resource.Resource.{Resource}
@@ -18,7 +19,8 @@ use Rattle.tips_graph.specs.Graph.{rows_at as graph_rows}
 use Rattle.tips_graph.specs.Keys.{key_set}
 use Rattle.alto_book.specs.Book.{Book, Extends, state_at, rows_of, trimmed}
 use Rattle.alto_book.specs.Legal.{IsLegal}
-use Rattle.alto_book.specs.Numbers.{gives, rows_at, touching, keys_between, pushes_of, origin_of, floor_of, updates_graph, first_kept, status_at, recommended}
+use Rattle.alto_book.specs.Numbers.{gives, rows_at, touching, keys_between, pushes_of, origin_of, floor_of}
+use Rattle.alto_book.specs.Numbers.{updates_graph, first_kept, status_at, recommended}
 
 -- ---- each number
 
@@ -124,7 +126,8 @@ LastNumberIsNow = (book : Book) (net : List ℕ) → IsLegal book → has_row (r
     → network_map (rows_at book (resource.Net net) (version_of (rows_of book) (resource.Net net))) net
     ≡ network_map (rows_of book) net
 
--- the rows at two numbers differ by the keys between them, where the first declare the resource: all do but perhaps a base
+-- the rows at two numbers differ by the keys between them, where the first declare the resource: all do but perhaps a
+-- base
 abbrev pub NumbersDifferByKeys : Type 0
 NumbersDifferByKeys = (book : Book) (of : Resource) (i j : ℕ) → IsLegal book
     → origin_of book of ≤ i → i ≤ j → j ≤ version_of (rows_of book) of → is_declared (rows_at book of i) of ≡ true
@@ -132,9 +135,9 @@ NumbersDifferByKeys = (book : Book) (of : Resource) (i j : ℕ) → IsLegal book
 
 -- ---- a base that moves on
 
--- a book and the same with its base moved on: the numbers of a declared resource that the later keeps, the earlier kept,
--- with the same keys between them. The rows at those above its base's are the same; those of its base may come of more
--- batches than those at its number, none of which changed the resource
+-- a book and the same with its base moved on: the numbers of a declared resource that the later keeps, the earlier
+-- kept, with the same keys between them. The rows at those above its base's are the same; those of its base may come of
+-- more batches than those at its number, none of which changed the resource
 pub record KeepsNumbers (earlier later : Book) (of : Resource) : Type 0 where
   pub first : first_kept earlier of ≤ first_kept later of
   pub here : (i j : ℕ) → status_at later of i j ≡ Here → status_at earlier of i j ≡ Here
@@ -152,8 +155,8 @@ TrimKeepsNumbers = (book : Book) (n : ℕ) (of : Resource) → IsLegal book → 
 -- ---- the updates graph
 
 -- a graph tells of a resource what the book does: the numbers that it keeps, whether an edge can be had, which edge is
--- recommended, the rows at each kept number, which are good and declare the resource, and the keys of each edge that can
--- be had
+-- recommended, the rows at each kept number, which are good and declare the resource, and the keys of each edge that
+-- can be had
 pub record TellsNumbers (graph : GraphData) (book : Book) (of : Resource) : Type 0 where
   pub some : 0 < last_of graph
   pub last : last_of graph ≡ version_of (rows_of book) of

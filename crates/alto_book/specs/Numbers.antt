@@ -1,5 +1,7 @@
--- The numbers that batches give resources (RFC 9569, section 3): the rows at a number, the keys between two, and the graph.
-use Rattle.std.specs.Prelude.{ℕ, ◌+◌, ◌-◌, max, Bool, not, ◌&&◌, ◌==◌, false, List, [], ◌∷◌, ◌++◌, fold, Option, Some, None, map, filter, take, drop, if◌then◌else◌}
+-- The numbers that batches give resources (RFC 9569, section 3): the rows at a number, the keys between two, and the
+-- graph.
+use Rattle.std.specs.Prelude.{ℕ, ◌+◌, ◌-◌, max, Bool, not, ◌&&◌, ◌==◌, false, List, [], ◌∷◌, ◌++◌, fold, Option, Some}
+use Rattle.std.specs.Prelude.{None, map, filter, take, drop, if◌then◌else◌}
 use Rattle.std.specs.BTreeMap.{is_at}
 use Rattle.std.specs.List.{list_any, filter_map, enumerate_from, position_or_len}
 use Rattle.alto_rows.specs.declared.key.Key.{Key}
@@ -47,7 +49,8 @@ rows_at book of number = state_at book (batches_to book of number)
 abbrev pub touching : Resource → List Write → List Key
 touching of writes = filter (touches of) (map (λ write. write.key) writes)
 
--- the batches after the one that gave a resource the number i, or past the base that shows it, up to the one that gave j
+-- the batches after the one that gave a resource the number i, or past the base that shows it, up to the one that gave
+-- j
 abbrev pub batches_between : Book → Resource → ℕ → ℕ → List Accepted
 batches_between book of i j = drop (batches_to book of i) (take (batches_to book of j) book.batches)
 

@@ -1,6 +1,10 @@
 //! What holds of every book, whatever imports come. Each law is the contract of a function that does nothing.
 
-ghost use Rattle.alto_book.specs.Laws.{OpeningIsLegal, AcceptanceKeepsLegal, AcceptanceExtends, BookExtendsItself, ExtendingGoesOn, RefusalChangesNothing, KnownIdChangesNothing, RefusalIsOfTheImport, ReceiptIsKept, LegalRowsAreGood, LegalStatesAreGood, LegalRowsAreWithin, LegalWritesFit, VersionsStaySmall, TrimKeepsLegal, TrimChangesNothing};
+ghost use Rattle.alto_book.specs.Laws.{OpeningIsLegal, AcceptanceKeepsLegal, AcceptanceExtends, BookExtendsItself};
+ghost use Rattle.alto_book.specs.Laws.{ExtendingGoesOn, RefusalChangesNothing, KnownIdChangesNothing};
+ghost use Rattle.alto_book.specs.Laws.{RefusalIsOfTheImport, ReceiptIsKept, LegalRowsAreGood, LegalStatesAreGood};
+ghost use Rattle.alto_book.specs.Laws.{LegalRowsAreWithin, LegalWritesFit, VersionsStaySmall, TrimKeepsLegal};
+ghost use Rattle.alto_book.specs.Laws.{TrimChangesNothing};
 
 /// A new book is legal.
 pub fn opening_is_legal()

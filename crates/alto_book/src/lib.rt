@@ -1,8 +1,8 @@
 //! The book of accepted batches: what an import comes to, and what holds of every book.
 //!
 //! The definitions are in `specs/`: a book and its rows (`Book`), what accepting an import makes of it (`Acceptance`),
-//! which books can come about (`Legal`), and the numbers that batches give resources (`Numbers`). The laws about them are
-//! contracts of functions that do nothing.
+//! which books can come about (`Legal`), and the numbers that batches give resources (`Numbers`). The laws about them
+//! are contracts of functions that do nothing.
 #![tactic(auto)]
 
 mod command;

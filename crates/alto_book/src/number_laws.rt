@@ -1,6 +1,10 @@
 //! What holds of the numbers that batches give resources. Each law is the contract of a function that does nothing.
 
-ghost use Rattle.alto_book.specs.NumberLaws.{EachNumberIsGivenOnce, NoNumberTwice, GivenNumberIsNext, TouchedResourcesGetNumbers, PushesAreNumbered, PushIsOfItsBatch, PushIsOfItsStep, KeysAreThoseOfThePushes, RowsAtStay, KeysBetweenStay, FirstKeptNeverFalls, UntouchedMapStays, LastNumberIsNow, NumbersDifferByKeys, GraphTellsNumbers, TrimKeepsNumbers};
+ghost use Rattle.alto_book.specs.NumberLaws.{EachNumberIsGivenOnce, NoNumberTwice, GivenNumberIsNext};
+ghost use Rattle.alto_book.specs.NumberLaws.{TouchedResourcesGetNumbers, PushesAreNumbered, PushIsOfItsBatch};
+ghost use Rattle.alto_book.specs.NumberLaws.{PushIsOfItsStep, KeysAreThoseOfThePushes, RowsAtStay, KeysBetweenStay};
+ghost use Rattle.alto_book.specs.NumberLaws.{FirstKeptNeverFalls, UntouchedMapStays, LastNumberIsNow};
+ghost use Rattle.alto_book.specs.NumberLaws.{NumbersDifferByKeys, GraphTellsNumbers, TrimKeepsNumbers};
 
 /// Each number above that of the base, up to a resource's version, was given by exactly one batch.
 pub fn each_number_is_given_once()

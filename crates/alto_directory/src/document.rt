@@ -14,9 +14,9 @@ use std::alloc::{AllocError, Global};
 
 /// The information resource directory (RFC 7285, section 9.2).
 ///
-/// Costs a walk over the rows of the networks, and for each network a search and a walk over the rows of its metrics and
-/// a search and a walk over those of its properties. No row of a PID, a prefix or a cost is read. Its lists in byte order
-/// cost one search for each of their texts.
+/// Costs a walk over the rows of the networks, and for each network a search and a walk over the rows of its metrics
+/// and a search and a walk over those of its properties. No row of a PID, a prefix or a cost is read. Its lists in byte
+/// order cost one search for each of their texts.
 #[tactic(auto, unfolding(crate::specs::Directory::directory))]
 pub fn directory<R: RowStore>(alloc: Global, rows: &R) -> Result<Tree, AllocError>
     ensures { IfOk result (λ tree. data_of tree ≡ spec.directory (R.rows rows.now)) }

@@ -1,4 +1,5 @@
-//! The information resource directory of an ALTO server (RFC 7285, section 9.2): what the server has, and where, as JSON.
+//! The information resource directory of an ALTO server (RFC 7285, section 9.2): what the server has, and where, as
+//! JSON.
 //!
 //! ```text
 //! {"meta":{"cost-types":{"num-routingcost":{"cost-metric":"routingcost","cost-mode":"numerical"},..},
@@ -7,8 +8,8 @@
 //!               "metro:cost:routingcost":{..},"metro:costs":{..},..}}
 //! ```
 //!
-//! A walk over the rows gathers what the directory tells of each network (`network`); of that each entry is one function
-//! (`entries`), beside a definition of the same name in `specs/Entries.antt`.
+//! A walk over the rows gathers what the directory tells of each network (`network`); of that each entry is one
+//! function (`entries`), beside a definition of the same name in `specs/Entries.antt`.
 #![tactic(auto)]
 
 mod capabilities;

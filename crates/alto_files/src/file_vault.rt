@@ -56,8 +56,8 @@ impl Vault for FileVault<'_> {
         }
     }
 
-    /// Closes the database, and copies its log into it. Where that can't be done the log stays beside it, and the next open
-    /// reads both.
+    /// Closes the database, and copies its log into it. Where that can't be done the log stays beside it, and the next
+    /// open reads both.
     fn close(&mut self, _path: &str, keeper: Self::Keeper) {
         self.count_closed(keeper.faults());
         keeper.close();

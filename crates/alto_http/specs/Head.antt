@@ -1,5 +1,6 @@
 -- Where the head of a request stands among the bytes (RFC 9112, sections 2.1 and 2.2).
-use Rattle.std.specs.Prelude.{◌≡◌, ℕ, ◌<◌, ◌≤◌, Bool, false, ◌||◌, ◌==◌, nat_eq, IsTrue, List, [], ◌∷◌, take, length, count_by}
+use Rattle.std.specs.Prelude.{◌≡◌, ℕ, ◌<◌, ◌≤◌, Bool, false, ◌||◌, ◌==◌, nat_eq, IsTrue, List, [], ◌∷◌, take, length}
+use Rattle.std.specs.Prelude.{count_by}
 use Rattle.std.specs.List.{ends_with, prefix_len}
 use Rattle.httparse.specs.Ascii.{line_feed, carriage_return, crlf_bytes}
 

@@ -2,7 +2,8 @@
 use Rattle.std.specs.Prelude.{◌≡◌, ℕ, List, ◌++◌, Option, Result, Ok, Err}
 use Rattle.alto_http.specs.Link.{followed_by, one_more}
 use Rattle.alto_http.specs.declared.fault.HeadFault.{HeadFault}
-use Rattle.alto_http.specs.declared.fault.HeadFault.TheVariants.{TooLarge, BadHead, Coded, NoLength, BodyTooLarge, Cut, ReadFault, Memory}
+use Rattle.alto_http.specs.declared.fault.HeadFault.TheVariants.{TooLarge, BadHead, Coded, NoLength, BodyTooLarge, Cut}
+use Rattle.alto_http.specs.declared.fault.HeadFault.TheVariants.{ReadFault, Memory}
 
 -- a piece came from the link, and stands behind the bytes that were ahead
 pub record ReadsAhead (ahead : List ℕ) (left : Option (List ℕ)) (ahead' : List ℕ) (left' : Option (List ℕ)) : Type 0 where

@@ -1,5 +1,6 @@
 -- A link in memory: when its calls fail, and how many bytes they move.
-use Rattle.std.specs.Prelude.{ℕ, ◌-◌, ◌%◌, ◌^◌, min, max, Bool, ◌&&◌, ◌||◌, nat_lt, nat_le, ◌==◌, List, [], ◌∷◌, length, slice_index}
+use Rattle.std.specs.Prelude.{ℕ, ◌-◌, ◌%◌, ◌^◌, min, max, Bool, ◌&&◌, ◌||◌, nat_lt, nat_le, ◌==◌, List, [], ◌∷◌, length}
+use Rattle.std.specs.Prelude.{slice_index}
 use Rattle.std.specs.List.{list_any}
 
 -- what a link in memory holds, and what was asked of it
@@ -24,8 +25,8 @@ abbrev pub write_fails : MemLinkData → List ℕ → Bool
 write_fails link piece =
     nat_lt 0 (length piece) && (list_any (λ call. call == link.writes) link.failing_writes || nat_le link.room (length link.out))
 
--- the most bytes that the read of this number gives: the sizes in turn, again and again, a 0 counting as 1; without sizes
--- all that fit
+-- the most bytes that the read of this number gives: the sizes in turn, again and again, a 0 counting as 1; without
+-- sizes all that fit
 abbrev pub piece_size : List ℕ → ℕ → ℕ
 piece_size [] call = 2 ^ 64 - 1
 piece_size (size ∷ sizes) call = max (slice_index (size ∷ sizes) (call % length (size ∷ sizes))) 1

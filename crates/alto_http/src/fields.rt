@@ -4,7 +4,8 @@ ghost use Rattle.std.specs.Str.Parse.{digits_value};
 ghost use Rattle.std.specs.Option.{option_copied, option_to_list};
 ghost use Rattle.httparse.specs.Spans.{IsHeaderWithin, header_bytes};
 ghost use Rattle.httparse.specs.Grammar.{skip_ows, trim_ows};
-ghost use Rattle.alto_http.specs.Fields.{is_named, values_of, first, is_close, lists_close, closes, length_said, length_of_body, is_decimal};
+ghost use Rattle.alto_http.specs.Fields.{is_named, values_of, first, is_close, lists_close, closes, length_said};
+ghost use Rattle.alto_http.specs.Fields.{length_of_body, is_decimal};
 
 use crate::fault::HeadFault;
 use httparse::spans::HeaderSpan;

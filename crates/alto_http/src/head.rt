@@ -2,7 +2,8 @@
 ghost use Rattle.std.specs.Prelude.{◌≡◌, ◌≢◌, ◌≤◌, length, map, All, IfSome, IfNone, IfOk, IfErr};
 ghost use Rattle.std.specs.Option.{option_copied, option_map};
 ghost use Rattle.httparse.specs.Grammar.{HasNoRequest};
-ghost use Rattle.httparse.specs.Spans.{IsHeaderWithin, IsWithin, IsRequestWithin, IsRequestOf, header_bytes, span_bytes};
+ghost use Rattle.httparse.specs.Spans.{IsHeaderWithin, IsWithin, IsRequestWithin, IsRequestOf, header_bytes};
+ghost use Rattle.httparse.specs.Spans.{span_bytes};
 ghost use Rattle.alto_http.specs.Head.{line_feeds};
 ghost use Rattle.alto_http.specs.Request.{verb_of, request_from, body_length, Passes, FailsBy};
 

@@ -1,4 +1,5 @@
-ghost use Rattle.std.specs.Prelude.{◌≡◌, ◌<◌, ◌≤◌, ◌+◌, ◌-◌, ℕ, List, [], length, min, take, drop, slice_range, IfOk, OnErr};
+ghost use Rattle.std.specs.Prelude.{◌≡◌, ◌<◌, ◌≤◌, ◌+◌, ◌-◌, ℕ, List, [], length, min, take, drop, slice_range, IfOk};
+ghost use Rattle.std.specs.Prelude.{OnErr};
 ghost use Rattle.alto_http.specs.Link.{count_after, IsAtEnd};
 
 use crate::link::{Failed, Link, read_behind};

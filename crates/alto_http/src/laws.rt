@@ -1,5 +1,6 @@
 //! What holds of the bytes of every connection. Each law is the contract of a function that does nothing.
-ghost use Rattle.alto_http.specs.Laws.{BeginIsOne, BeginIsNoEnd, EndIsOne, SplitIsOne, HeadIsReadWhole, BeginIsWhole, BeginNeedsNoMore, RefusalIsByACheck};
+ghost use Rattle.alto_http.specs.Laws.{BeginIsOne, BeginIsNoEnd, EndIsOne, SplitIsOne, HeadIsReadWhole, BeginIsWhole};
+ghost use Rattle.alto_http.specs.Laws.{BeginNeedsNoMore, RefusalIsByACheck};
 
 /// What the bytes begin with is one request with one rest, or one end, and never both.
 pub fn next_is_one()

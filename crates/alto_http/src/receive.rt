@@ -1,5 +1,6 @@
 //! Reads until a head, or a body, is there whole.
-ghost use Rattle.std.specs.Prelude.{◌≡◌, ◌<◌, ◌≤◌, ◌⊎◌, ◌+◌, ℕ, length, take, drop, List, ◌++◌, MatchOption, IfOk, IfErr, IsErrOf, OnOk, OnErr, IfSome};
+ghost use Rattle.std.specs.Prelude.{◌≡◌, ◌<◌, ◌≤◌, ◌⊎◌, ◌+◌, ℕ, length, take, drop, List, ◌++◌, MatchOption, IfOk};
+ghost use Rattle.std.specs.Prelude.{IfErr, IsErrOf, OnOk, OnErr, IfSome};
 ghost use Rattle.alto_http.specs.Head.{breaks_before, IsHeadEnd};
 ghost use Rattle.alto_http.specs.Intake.{KeepsWhole, ReadsAhead, GivesBehind, reads_after};
 ghost use Rattle.alto_http.specs.Link.{followed_by, IsAtEnd};

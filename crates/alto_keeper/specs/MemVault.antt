@@ -10,7 +10,8 @@ use Rattle.alto_keeper.specs.Stored.{StoredData, nothing, faults_after, one_more
 use Rattle.alto_keeper.specs.MemKeeper.{MemKeeperData}
 use Rattle.alto_keeper.specs.declared.fault.KeepFault.{KeepFault}
 
--- what is held by path, the numbers of the opens and of each keeper's calls that fail, how many opens there were, and faults
+-- what is held by path, the numbers of the opens and of each keeper's calls that fail, how many opens there were, and
+-- faults
 pub record MemVaultData : Type 0 where
   pub held : List (String Global × StoredData)
   pub failing : List ℕ

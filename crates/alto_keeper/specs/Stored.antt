@@ -1,5 +1,6 @@
 -- What records hold, and what a call on them does to it.
-use Rattle.std.specs.Prelude.{◌≡◌, ◌⊎◌, ℕ, ◌+◌, ◌-◌, ◌^◌, ℤ, pos, ◌<ℤ◌, ◌≤ℤ◌, int_le, min, Bool, ◌==◌, ◌&&◌, not, if◌then◌else◌, List, [], ◌∷◌, ◌++◌, Result, Ok, Err, All, filter}
+use Rattle.std.specs.Prelude.{◌≡◌, ◌⊎◌, ℕ, ◌+◌, ◌-◌, ◌^◌, ℤ, pos, ◌<ℤ◌, ◌≤ℤ◌, int_le, min, Bool, ◌==◌, ◌&&◌, not}
+use Rattle.std.specs.Prelude.{if◌then◌else◌, List, [], ◌∷◌, ◌++◌, Result, Ok, Err, All, filter}
 use Rattle.alto_keeper.specs.declared.fault.KeepFault.{KeepFault}
 use Rattle.alto_keeper.specs.declared.fault.KeepFault.TheVariants as fault
 
@@ -30,7 +31,8 @@ abbrev pub numbered : ℕ → List (List ℕ) → List RowData
 numbered k [] = []
 numbered k (bytes ∷ pieces) = record { n = pos k; bytes = bytes } ∷ numbered (k + 1) pieces
 
--- a row goes with a base that takes in the rows up to this number: it is one of them, and not the first row, which stays for good
+-- a row goes with a base that takes in the rows up to this number: it is one of them, and not the first row, which
+-- stays for good
 abbrev pub is_taken_in : ℤ → RowData → Bool
 is_taken_in upto row = int_le (pos 1) row.n && int_le row.n upto
 

@@ -1,5 +1,7 @@
--- What a name is: its alphabet, its length, and the first fault of bytes that are none (RFC 7285, sections 10.1 and 10.6).
-use Rattle.std.specs.Prelude.{◌≡◌, ℕ, Bool, not, ◌==◌, ◌||◌, ◌&&◌, nat_le, nat_lt, List, [], ◌∷◌, length, Result, Ok, Err, Option, Some, None, if◌then◌else◌, codes}
+-- What a name is: its alphabet, its length, and the first fault of bytes that are none (RFC 7285, sections 10.1 and
+-- 10.6).
+use Rattle.std.specs.Prelude.{◌≡◌, ℕ, Bool, not, ◌==◌, ◌||◌, ◌&&◌, nat_le, nat_lt, List, [], ◌∷◌, length, Result, Ok}
+use Rattle.std.specs.Prelude.{Err, Option, Some, None, if◌then◌else◌, codes}
 use Rattle.std.specs.List.{list_any, position_from}
 use Rattle.std.specs.Char.{is_ascii_alphanumeric}
 use Rattle.alto_names.specs.declared.label.NameFault.{NameFault}

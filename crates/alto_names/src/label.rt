@@ -1,5 +1,6 @@
 ghost use Rattle.std.specs.Prelude.{◌≡◌, ◌≢◌, ℕ, false, List, [], ◌∷◌, Some, Ok, IfOk, IfErr, nat_eq};
-ghost use Rattle.std.specs.Cmp.Lexicographic.{pointwise, slice_cmp, nat_list_eq_equiv, nat_list_cmp_total, texts_ties, texts_po};
+ghost use Rattle.std.specs.Cmp.Lexicographic.{pointwise, slice_cmp, nat_list_eq_equiv, nat_list_cmp_total, texts_ties};
+ghost use Rattle.std.specs.Cmp.Lexicographic.{texts_po};
 ghost use Rattle.std.specs.Cmp.{partial_equiv_from_equiv};
 ghost use Rattle.std.proofs.Common.{rules};
 ghost use Rattle.std.specs.Ordering.{nat_cmp, is_gt};
@@ -60,9 +61,9 @@ impl Error for NameFault {}
 
 /// A name of one kind. A contract sees its bytes.
 ///
-/// A name is a pointer of 8 bytes. Its clones share what it points to: a block of 32 bytes, which counts the owners, and
-/// the text, as long as it is. Reading a name takes this memory anew, also for a text that was read before. A clone takes
-/// none and constant time, and is refused only at 2^63 owners.
+/// A name is a pointer of 8 bytes. Its clones share what it points to: a block of 32 bytes, which counts the owners,
+/// and the text, as long as it is. Reading a name takes this memory anew, also for a text that was read before. A clone
+/// takes none and constant time, and is refused only at 2^63 owners.
 #[derive(Drop)]
 pub struct Label<K: Kind> {
     text: ArcStr,

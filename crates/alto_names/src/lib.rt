@@ -1,4 +1,5 @@
-//! The names of an ALTO server: of networks, PIDs, cost metrics, properties, abstract network elements, imports and epochs.
+//! The names of an ALTO server: of networks, PIDs, cost metrics, properties, abstract network elements, imports and
+//! epochs.
 //!
 //! A name is read from bytes and is from then on known to be one: its length and its alphabet are those of
 //! its kind. All kinds are one type, `Label`, with the kind as its parameter. Clones of a name share its text.

@@ -1,5 +1,6 @@
 -- A reply and its bytes (RFC 9112, sections 4 to 6; phrases of RFC 9110, section 15, 425 of RFC 8470, 431 of RFC 6585).
-use Rattle.std.specs.Prelude.{◌≡◌, ◌≢◌, ℕ, Bool, true, false, List, [], ◌∷◌, ◌++◌, length, Option, Some, None, is_some, unwrap_or, codes, decimal, ◌==◌}
+use Rattle.std.specs.Prelude.{◌≡◌, ◌≢◌, ℕ, Bool, true, false, List, [], ◌∷◌, ◌++◌, length, Option, Some, None, is_some}
+use Rattle.std.specs.Prelude.{unwrap_or, codes, decimal, ◌==◌}
 use Rattle.std.specs.Map.{lookup}
 use Rattle.httparse.specs.Ascii.{crlf_bytes}
 use Rattle.alto_http.specs.declared.request.Verb.{Verb}

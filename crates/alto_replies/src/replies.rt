@@ -8,7 +8,9 @@ ghost use Rattle.alto_http.specs.declared.request.Verb.TheVariants as verb;
 ghost use Rattle.alto_book.specs.declared.fault.EditFault.TheVariants as edit_fault;
 ghost use Rattle.edit_forms.specs.declared.fault.FormFault.TheVariants as form_fault;
 ghost use Rattle.alto_replies.specs.Reply.{IsReply};
-ghost use Rattle.alto_replies.specs.Replies.{json_type, whole, ok_reply, document_reply, status_alone, not_found, wrong_method, bad_form, form_reply, gone, too_early, receipt_reply, fault_reply, edit_reply, head_status};
+ghost use Rattle.alto_replies.specs.Replies.{json_type, whole, ok_reply, document_reply, status_alone, not_found};
+ghost use Rattle.alto_replies.specs.Replies.{wrong_method, bad_form, form_reply, gone, too_early, receipt_reply};
+ghost use Rattle.alto_replies.specs.Replies.{fault_reply, edit_reply, head_status};
 
 use crate::reply::Reply;
 use alto_book::{EditFault, Receipt};

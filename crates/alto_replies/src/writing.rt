@@ -1,5 +1,7 @@
-ghost use Rattle.std.specs.Prelude.{◌≡◌, ◌≢◌, true, [], ◌++◌, codes, decimal, length, is_some, unwrap_or, Some, IfOk, OnOk, IsTrue, string_bytes};
-ghost use Rattle.alto_replies.specs.Reply.{IsReply, bytes_of, head_of, phrase_of, status_line, type_field, length_field, verb_text, allow_field, close_field};
+ghost use Rattle.std.specs.Prelude.{◌≡◌, ◌≢◌, true, [], ◌++◌, codes, decimal, length, is_some, unwrap_or, Some, IfOk};
+ghost use Rattle.std.specs.Prelude.{OnOk, IsTrue, string_bytes};
+ghost use Rattle.alto_replies.specs.Reply.{IsReply, bytes_of, head_of, phrase_of, status_line, type_field};
+ghost use Rattle.alto_replies.specs.Reply.{length_field, verb_text, allow_field, close_field};
 ghost use Rattle.alto_http.specs.declared.request.Verb.TheVariants as verb;
 
 use crate::reply::Reply;

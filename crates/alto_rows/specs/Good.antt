@@ -1,6 +1,7 @@
 -- Good rows: each value fits its key, what a row names is declared, a prefix has one PID, and declared resources have
 -- versions.
-use Rattle.std.specs.Prelude.{◌≡◌, ℕ, ◌<◌, ◌≤◌, ◌^◌, ◌-◌, List, [], ◌∷◌, length, map, All, true, Some, IfSome, IsUtf8, ⊤}
+use Rattle.std.specs.Prelude.{◌≡◌, ℕ, ◌<◌, ◌≤◌, ◌^◌, ◌-◌, List, [], ◌∷◌, length, map, All, true, Some, IfSome, IsUtf8}
+use Rattle.std.specs.Prelude.{⊤}
 use Rattle.alto_addr.specs.Bits.{HasBits}
 use Rattle.alto_addr.specs.declared.prefix.Prefix.{Prefix}
 use Rattle.alto_names.specs.Name.{IsNetName, IsPidName, IsMetric, IsAneName, IsPropName, IsEpoch}

@@ -1,5 +1,6 @@
 -- The pieces of ids: the bytes of a network's name, and what is behind them.
-use Rattle.std.specs.Prelude.{◌≡◌, ℕ, ◌≤◌, true, false, List, [], ◌∷◌, ◌++◌, length, take, drop, Option, Some, None, codes, ⊤}
+use Rattle.std.specs.Prelude.{◌≡◌, ℕ, ◌≤◌, true, false, List, [], ◌∷◌, ◌++◌, length, take, drop, Option, Some, None}
+use Rattle.std.specs.Prelude.{codes, ⊤}
 use Rattle.std.specs.List.{AllByRecursion}
 use Rattle.alto_names.specs.Name.{is_net_byte}
 use Rattle.alto_rows.specs.declared.resource.Resource.{Resource}

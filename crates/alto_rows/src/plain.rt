@@ -1,4 +1,5 @@
-ghost use Rattle.std.specs.Prelude.{◌≡◌, ◌∷◌, ◌++◌, [], Err, IfOk, IsTrue, OnOk, length, option_copied, option_map, slice_get};
+ghost use Rattle.std.specs.Prelude.{◌≡◌, ◌∷◌, ◌++◌, [], Err, IfOk, IsTrue, OnOk, length, option_copied, option_map};
+ghost use Rattle.std.specs.Prelude.{slice_get};
 ghost use Rattle.std.specs.BTreeMap.{Updates};
 ghost use Rattle.std.specs.List.Sorted.{IsSearchInRange};
 ghost use Rattle.std.specs.Ordering.{is_lt};
@@ -131,7 +132,8 @@ fn is_before(key: &Key, other: &Key) -> bool
     key.cmp(other).is_lt()
 }
 
-/// The place of the key's row, or where it would go. One comparison where that is before all rows, else a binary search.
+/// The place of the key's row, or where it would go. One comparison where that is before all rows, else a binary
+/// search.
 fn place(rows: &[(Key, Value)], key: &Key) -> Result<usize, usize>
     requires { AreSorted rows.now }
     ensures place { result ≡ place_of rows.now key.now }

@@ -34,8 +34,8 @@ AreOwners rows later owners known = (net pid : List ℕ) (prefix : Prefix)
     ≡ owner_from (get place_cmp owners (place_of net prefix))
     (not (contains name_cmp known net) && has_row rows (key.Prefix net pid prefix)) pid
 
--- the prefix whose owner a write changes, and the owner that it then has: the row of the write's key was there or not, and
--- then is there or not
+-- the prefix whose owner a write changes, and the owner that it then has: the row of the write's key was there or not,
+-- and then is there or not
 abbrev pub owner_left : Key → Bool → Bool → Option (Place × Option (List ℕ))
 owner_left (key.Prefix net pid prefix) had true = Some (place_of net prefix, Some pid)
 owner_left (key.Prefix net pid prefix) true false = Some (place_of net prefix, None)

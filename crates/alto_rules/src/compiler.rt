@@ -30,8 +30,8 @@ const MOST_WALKS: usize = 32;
 ///
 /// Fails with the first rule that is broken, edit by edit, and of the batch as a whole after all edits. Costs some
 /// searches for each write. A withdrawal also walks the spans that can name what it withdraws and the keys written so
-/// far; the version of a network's map walks its metrics, and each `prefix-put` the network's prefixes, or only the first
-/// in a network where the batch has more than 32.
+/// far; the version of a network's map walks its metrics, and each `prefix-put` the network's prefixes, or only the
+/// first in a network where the batch has more than 32.
 pub fn compile<R: RowStore>(
     alloc: Global,
     rows: &R,

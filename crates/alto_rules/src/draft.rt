@@ -61,7 +61,8 @@ impl<'a, R: RowStore> Draft<'a, R> {
         has_row(self.rows, key, self.kept.index.has(key))
     }
 
-    /// How many rows of what is counted there are after the writes. A search, or three where the writes left their number.
+    /// How many rows of what is counted there are after the writes. A search, or three where the writes left their
+    /// number.
     pub fn count(&self, counted: &Counted) -> Result<usize, AllocError>
         ensures { IfOk result (λ count. count ≡ count_in (drafted_rows self.now) (span_of counted.now)) }
     {
@@ -123,8 +124,8 @@ impl<'a, R: RowStore> Draft<'a, R> {
         Ok(Draft { rows, writes, kept })
     }
 
-    /// The draft with a prefix given to a PID, and taken from the PID that had it. Some searches where the owners of the
-    /// network's prefixes are known, else one walk over these.
+    /// The draft with a prefix given to a PID, and taken from the PID that had it. Some searches where the owners of
+    /// the network's prefixes are known, else one walk over these.
     fn give(self, net: &NetName, pid: &PidName, prefix: &Prefix) -> Result<Self, AllocError>
         ensures { IfOk result (λ draft. draft ≡ wrote self.entry (taking (drafted_rows self.entry) net.now pid.now prefix.now
             ++ putting (key.Prefix net.now pid.now prefix.now) value.Unit ∷ [])) }
@@ -173,8 +174,8 @@ impl<'a, R: RowStore> Draft<'a, R> {
         Ok(self.owner(net, prefix)?.is_none())
     }
 
-    /// The PID that has a prefix after the writes. Two searches where the owners of the network's prefixes are known, else
-    /// one walk over these.
+    /// The PID that has a prefix after the writes. Two searches where the owners of the network's prefixes are known,
+    /// else one walk over these.
     fn owner(&self, net: &NetName, prefix: &Prefix) -> Result<Option<PidName>, AllocError>
         ensures { IfOk result (λ owner. HasOwner (drafted_rows self.now) net.now prefix.now owner) }
     {

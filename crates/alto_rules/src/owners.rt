@@ -6,7 +6,8 @@ ghost use Rattle.alto_addr.specs.Order.{prefix_cmp};
 ghost use Rattle.alto_rows.specs.Order.{name_cmp};
 ghost use Rattle.alto_rows.specs.Rows.{Rows};
 ghost use Rattle.alto_rules.specs.Draft.{HasOwner, HaveOneOwner};
-ghost use Rattle.alto_rules.specs.Owners.{AreOwners, HasChanged, HasFilled, owner_among, owner_left, place_cmp, place_of, placed};
+ghost use Rattle.alto_rules.specs.Owners.{AreOwners, HasChanged, HasFilled, owner_among, owner_left, place_cmp};
+ghost use Rattle.alto_rules.specs.Owners.{place_of, placed};
 
 use crate::place::Place;
 use alto_addr::Prefix;
@@ -157,8 +158,8 @@ fn is_kept(of: &BTreeMap<Place, Option<PidName>>, place: &Place) -> bool
     of.contains_key(place)
 }
 
-/// The prefix whose owner a write changes, with the owner that it then has: the row of the write's key was there or not,
-/// and then is there or not.
+/// The prefix whose owner a write changes, with the owner that it then has: the row of the write's key was there or
+/// not, and then is there or not.
 fn owner_left(
     key: &Key,
     had: bool,

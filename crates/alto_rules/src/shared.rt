@@ -12,9 +12,9 @@ use alto_rows::{Key, PackedPrefix, RowStore};
 use std::alloc::AllocError;
 
 impl<'a, R: RowStore> Draft<'a, R> {
-    /// The key that an edit is about. What it names of a network that rows declare, before the batch or written in it, it
-    /// names by their copy of the name, so that many rows share one: contracts see names by value, and don't say it. A
-    /// search for each such name.
+    /// The key that an edit is about. What it names of a network that rows declare, before the batch or written in it,
+    /// it names by their copy of the name, so that many rows share one: contracts see names by value, and don't say it.
+    /// A search for each such name.
     pub fn shared_key(&self, edit: &Edit) -> Result<Key, AllocError>
         ensures { IfOk result (λ key. key ≡ edit_key edit.now) }
     {

@@ -9,7 +9,8 @@ ghost use Rattle.alto_rows.specs.Versions.{declaring_key, is_declared, number_in
 ghost use Rattle.alto_edits.specs.Laws.{HaveNextVersions};
 ghost use Rattle.alto_edits.specs.Versions.{next_version, sequence_writes};
 ghost use Rattle.alto_rules.specs.Withdrawal.{named_in};
-ghost use Rattle.alto_rules.specs.Draft.{HasJoined, HasTouched, HaveNoVersions, cost_of, costs_of, dependents, drafted_rows, is_among, wrote};
+ghost use Rattle.alto_rules.specs.Draft.{HasJoined, HasTouched, HaveNoVersions, cost_of, costs_of, dependents};
+ghost use Rattle.alto_rules.specs.Draft.{drafted_rows, is_among, wrote};
 
 use crate::draft::Draft;
 use crate::index::with_resource;
@@ -21,8 +22,8 @@ use std::alloc::{AllocError, Global};
 use std::collections::BTreeSet;
 
 impl<'a, R: RowStore> Draft<'a, R> {
-    /// The draft with the version rows of the declared resources that its writes touch. Some searches for each, and for a
-    /// network's map a walk over its metrics.
+    /// The draft with the version rows of the declared resources that its writes touch. Some searches for each, and for
+    /// a network's map a walk over its metrics.
     pub fn versioned(self) -> Result<Self, AllocError>
         requires edits { HaveNoVersions self.writes }
         requires room { HaveNextVersions self.rows }

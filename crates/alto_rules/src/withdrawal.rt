@@ -10,7 +10,8 @@ ghost use Rattle.alto_rows.specs.Span.{rows_in};
 ghost use Rattle.alto_edits.specs.Writes.{deleting, withdrawing};
 ghost use Rattle.alto_rules.specs.Draft.{drafted_rows, wrote};
 ghost use Rattle.alto_rules.specs.Parts.{edit_key};
-ghost use Rattle.alto_rules.specs.Withdrawal.{HasPicked, has_key, is_of, is_pid, is_withdrawn, is_written_key, named_in, names_key, spans_of, withdraws};
+ghost use Rattle.alto_rules.specs.Withdrawal.{HasPicked, has_key, is_of, is_pid, is_withdrawn, is_written_key};
+ghost use Rattle.alto_rules.specs.Withdrawal.{named_in, names_key, spans_of, withdraws};
 
 use crate::draft::Draft;
 use crate::index::copied;
@@ -22,8 +23,8 @@ use std::alloc::{AllocError, Global};
 use std::collections::BTreeSet;
 
 impl<'a, R: RowStore> Draft<'a, R> {
-    /// The draft with the deletions of all rows that name what the network, the PID or the metric of an edit declares. It
-    /// walks the spans that can name the key and the keys that were written, with a search for each that does.
+    /// The draft with the deletions of all rows that name what the network, the PID or the metric of an edit declares.
+    /// It walks the spans that can name the key and the keys that were written, with a search for each that does.
     pub fn withdraw(self, edit: &Edit) -> Result<Self, AllocError>
         requires { withdraws (edit_key edit.now) ≡ true }
         ensures { IfOk result (λ draft. draft

@@ -76,10 +76,10 @@ IsWrittenNext setting rest events bytes =
     ⊎ (RunsOutOfMemory setting rest events × (bytes ≡ memory_reply))
 
 -- the table of ends: which requests the bytes of a link are, and what happens behind their turns, the tail. `left` are
--- the bytes that the link didn't give. Closed: the bytes end there, behind a request that closes, or in a refusal, which
--- is written. Cut: nothing. Limit: nothing, and more bytes may follow. ReadFault: the requests are those that lie whole
--- in the bytes that were given. WriteFault: of what is next a part is written, perhaps none or all, and its turn was
--- taken. Memory: a 500 is written
+-- the bytes that the link didn't give. Closed: the bytes end there, behind a request that closes, or in a refusal,
+-- which is written. Cut: nothing. Limit: nothing, and more bytes may follow. ReadFault: the requests are those that lie
+-- whole in the bytes that were given. WriteFault: of what is next a part is written, perhaps none or all, and its turn
+-- was taken. Memory: a 500 is written
 abbrev pub Ended : End → Setting → List ℕ → Option (List ℕ) → List RequestData → List Event → Type 0
 Ended end.Closed setting bytes left requests tail =
     (ending : Ending) × (ending ≢ cut) × Splits bytes requests ending × (tail ≡ refusal_at ending)

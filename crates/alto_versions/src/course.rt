@@ -19,7 +19,8 @@ use std::sync::Arc;
 use tips_graph::Graph;
 
 /// A version in the making: all of it but the range tables and the texts, which cost much and are asked for at the end
-/// alone. So many batches in a row are gone through as fast as their rows. A contract sees the number, the rows and the graphs.
+/// alone. So many batches in a row are gone through as fast as their rows. A contract sees the number, the rows and the
+/// graphs.
 #[derive(Drop)]
 pub struct Course<R: RowStore> {
     n: u64,

@@ -19,9 +19,10 @@ use std::marker::Model;
 use std::sync::Arc;
 use tips_graph::Graph;
 
-/// A version: the rows after some number of batches, the updates graphs that they have led to, the range tables of their
-/// prefixes, and the texts of their documents. It never changes, and readers share it. A contract sees the number, the
-/// rows, the graphs, and the prefixes of the tables. The rows are good, and the texts are those of the rows.
+/// A version: the rows after some number of batches, the updates graphs that they have led to, the range tables of
+/// their prefixes, and the texts of their documents. It never changes, and readers share it. A contract sees the
+/// number, the rows, the graphs, and the prefixes of the tables. The rows are good, and the texts are those of the
+/// rows.
 #[derive(Drop)]
 pub struct Front<R: RowStore> {
     /// How many batches led to it.
@@ -75,8 +76,8 @@ impl<R: RowStore> Front<R> {
         Some(table)
     }
 
-    /// The text of a resource's document, where the resource is declared. Costs one pass over the declared resources, and
-    /// the copying of the text.
+    /// The text of a resource's document, where the resource is declared. Costs one pass over the declared resources,
+    /// and the copying of the text.
     pub fn text(&self, alloc: Global, of: &Resource) -> Result<Option<Vec<u8>>, AllocError>
         ensures { IfOk result (λ text. option_map vec_items text ≡ declared_text self.now.rows of.now) }
     {
@@ -89,9 +90,9 @@ impl<R: RowStore> Front<R> {
     /// The version after one batch more. It shares what the batch left.
     ///
     /// Costs what the store's `with` costs, two searches for each declared resource, a look at each write for each of
-    /// those that the batch gave a number, twice for each declared resource and once for each network, a range table for
-    /// each network whose prefixes it wrote, and for each map that it changed a walk over the groups and the writing of
-    /// those that it touched.
+    /// those that the batch gave a number, twice for each declared resource and once for each network, a range table
+    /// for each network whose prefixes it wrote, and for each map that it changed a walk over the groups and the
+    /// writing of those that it touched.
     pub fn with(&self, alloc: Global, batch: &Batch) -> Result<Front<R>, AllocError>
         requires room { self.now.n < 2 ^ 63 }
         requires good { AreGood (after self.now.rows batch.now.writes) }

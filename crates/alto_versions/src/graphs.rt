@@ -22,11 +22,11 @@ use std::alloc::{AllocError, Global};
 use std::sync::Arc;
 use tips_graph::Graph;
 
-/// The updates graphs after a batch with these writes, which led to these rows. They share the rows, and the graphs of all
-/// that the batch gave no number. With no graphs and no writes they are those of a base with these rows.
+/// The updates graphs after a batch with these writes, which led to these rows. They share the rows, and the graphs of
+/// all that the batch gave no number. With no graphs and no writes they are those of a base with these rows.
 ///
-/// Costs a walk over the rows of the networks and metrics, one over the graphs, a search for each declared resource, and
-/// a look at each write for each that has a new number.
+/// Costs a walk over the rows of the networks and metrics, one over the graphs, a search for each declared resource,
+/// and a look at each write for each that has a new number.
 pub(crate) fn graphs_after<R: RowStore>(
     alloc: Global,
     graphs: &[(Resource, Arc<Graph<R>>)],

@@ -1,7 +1,8 @@
 ghost use Rattle.std.specs.Prelude.{IfOk};
 ghost use Rattle.clap.specs.Words.{first_value, found_of};
 ghost use Rattle.alto_words.specs.Tasks.{Gives, IsInRange, task_in};
-ghost use Rattle.alto_words.specs.declared.command_name.CommandName.TheVariants.{Drill, Import, Init, Pipe, Serve, Show, Trim};
+ghost use Rattle.alto_words.specs.declared.command_name.CommandName.TheVariants.{Drill, Import, Init, Pipe, Serve};
+ghost use Rattle.alto_words.specs.declared.command_name.CommandName.TheVariants.{Show, Trim};
 
 use crate::command_name::CommandName;
 use crate::task::{Task, WordsFault};

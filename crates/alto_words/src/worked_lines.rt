@@ -5,7 +5,8 @@ ghost use Rattle.edit_forms.specs.declared.form.Form.TheVariants.{Csv, Json};
 ghost use Rattle.alto_words.specs.Lines.{AsksFor, IsOutside};
 ghost use Rattle.alto_words.specs.Words.{task_of};
 ghost use Rattle.alto_words.specs.declared.command_name.CommandName.TheVariants as command;
-ghost use Rattle.alto_words.specs.declared.task.Task.TheVariants.{Drill, Help, Import, Init, Pipe, Serve, Show, Trim, Version};
+ghost use Rattle.alto_words.specs.declared.task.Task.TheVariants.{Drill, Help, Import, Init, Pipe, Serve, Show, Trim};
+ghost use Rattle.alto_words.specs.declared.task.Task.TheVariants.{Version};
 ghost use Rattle.alto_words.specs.declared.task.Topic.TheVariants as topic;
 
 /// Each command, as it is mostly written.

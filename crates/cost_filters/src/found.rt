@@ -48,7 +48,8 @@ impl Found {
         is_set(&self.shown, at)
     }
 
-    /// Writes the costs of the pair at a place with a name, if there is one: in the form of several a list, else the one.
+    /// Writes the costs of the pair at a place with a name, if there is one: in the form of several a list, else the
+    /// one.
     pub fn write_pair(
         &self,
         multi: bool,

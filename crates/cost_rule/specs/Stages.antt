@@ -1,6 +1,7 @@
--- The stages in which a constraint is read byte by byte, and what that comes to. The calls of the crate are held to the grammar, not to
--- these.
-use Rattle.std.specs.Prelude.{ℕ, ◌+◌, ◌-◌, ◌*◌, ◌^◌, ◌<◌, ◌≤◌, ◌==◌, nat_lt, List, [], ◌∷◌, Option, Some, None, option_and_then, option_map, if◌then◌else◌}
+-- The stages in which a constraint is read byte by byte, and what that comes to. The calls of the crate are held to the
+-- grammar, not to these.
+use Rattle.std.specs.Prelude.{ℕ, ◌+◌, ◌-◌, ◌*◌, ◌^◌, ◌<◌, ◌≤◌, ◌==◌, nat_lt, List, [], ◌∷◌, Option, Some, None}
+use Rattle.std.specs.Prelude.{option_and_then, option_map, if◌then◌else◌}
 use Rattle.std.specs.Char.{is_ascii_digit}
 use Rattle.cost_rule.specs.Grammar.{is_blank}
 use Rattle.cost_rule.specs.declared.constraint.Constraint.{Constraint}
@@ -8,7 +9,8 @@ use Rattle.cost_rule.specs.declared.constraint.Relation.{Relation}
 use Rattle.cost_rule.specs.declared.constraint.Relation.TheVariants.{Gt, Lt, Ge, Le, Eq}
 use Rattle.cost_rule.specs.declared.digits.Digits.{Digits}
 use Rattle.cost_rule.specs.declared.stage.Stage.{Stage}
-use Rattle.cost_rule.specs.declared.stage.Stage.TheVariants.{Start, Bracket, Index, Closed, Spaced, Greater, Less, Equal, Related, Apart, Whole, Point, Fraction}
+use Rattle.cost_rule.specs.declared.stage.Stage.TheVariants.{Start, Bracket, Index, Closed, Spaced, Greater, Less}
+use Rattle.cost_rule.specs.declared.stage.Stage.TheVariants.{Equal, Related, Apart, Whole, Point, Fraction}
 
 -- no digits yet
 abbrev pub no_digits : Digits

@@ -1,5 +1,5 @@
--- The document of a resource, which a client reads by name and an edge from 0 holds whole (RFC 9569, section 3): the map of
--- its kind.
+-- The document of a resource, which a client reads by name and an edge from 0 holds whole (RFC 9569, section 3): the
+-- map of its kind.
 use Rattle.serde_json.specs.Data.{Data}
 use Rattle.alto_rows.specs.declared.key.Key.{Key}
 use Rattle.alto_rows.specs.declared.resource.Resource.{Resource}

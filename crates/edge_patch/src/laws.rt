@@ -12,8 +12,8 @@ pub fn untouched_is_empty()
     ensures { UntouchedIsEmpty }
 {}
 
-/// Both forms lead from the document before to the document after, whatever the keys between them are: groups and members that
-/// came, that went, that changed, and a new tag.
+/// Both forms lead from the document before to the document after, whatever the keys between them are: groups and
+/// members that came, that went, that changed, and a new tag.
 pub fn steps_lead_on()
     ensures merged { StepsLeadOn }
     ensures operated { OperationsLeadOn }

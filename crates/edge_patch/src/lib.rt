@@ -1,5 +1,5 @@
-//! What the edges of an updates graph hold (RFC 9569, section 3): documents, and what leads from one version of a document
-//! to a later one as a JSON merge patch (RFC 7396) or as a JSON Patch (RFC 6902).
+//! What the edges of an updates graph hold (RFC 9569, section 3): documents, and what leads from one version of a
+//! document to a later one as a JSON merge patch (RFC 7396) or as a JSON Patch (RFC 6902).
 //!
 //! ```text
 //! {"meta":{"vtag":{"tag":"e1-4"}},"network-map":{"east":{"ipv4":null},"west":{"ipv4":["0.0.0.0/0","192.0.2.0/24"]}}}

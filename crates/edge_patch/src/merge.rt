@@ -11,9 +11,9 @@ use net_docs::{NetMap, net_places};
 use prop_docs::{PropMap, prop_places};
 use std::alloc::{AllocError, Global};
 
-/// What leads to the document of a declared resource from one that differs at these keys, as a merge patch (RFC 7396): the
-/// body of an edge between two versions (RFC 9569, section 3). Costs a few searches for each group and member that the keys
-/// touch, and one walk over each such member's value.
+/// What leads to the document of a declared resource from one that differs at these keys, as a merge patch (RFC 7396):
+/// the body of an edge between two versions (RFC 9569, section 3). Costs a few searches for each group and member that
+/// the keys touch, and one walk over each such member's value.
 pub fn merge_edge<R: RowStore>(
     alloc: Global,
     resource: &Resource,

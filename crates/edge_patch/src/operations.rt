@@ -11,8 +11,9 @@ use net_docs::{NetMap, net_places};
 use prop_docs::{PropMap, prop_places};
 use std::alloc::{AllocError, Global};
 
-/// What leads from the document of a declared resource before to the one after, where they differ at these keys, as a JSON
-/// Patch (RFC 6902). Costs what the merge patch costs, and a few searches more for each group and member in the rows before.
+/// What leads from the document of a declared resource before to the one after, where they differ at these keys, as a
+/// JSON Patch (RFC 6902). Costs what the merge patch costs, and a few searches more for each group and member in the
+/// rows before.
 pub fn json_edge<R: RowStore>(
     alloc: Global,
     resource: &Resource,

@@ -10,7 +10,8 @@ use Rattle.alto_edits.specs.declared.edit.PropValue.{PropValue}
 use Rattle.edit_forms.specs.declared.operation.Operation.{Operation}
 use Rattle.edit_forms.specs.declared.operation.Operation.TheVariants as op
 use Rattle.edit_forms.specs.declared.value_kind.ValueKind.{ValueKind}
-use Rattle.edit_forms.specs.Columns.{WritesName, WritesPrefix, WritesAmount, WritesKind, WritesValue, WritesBandwidth, WritesAnes}
+use Rattle.edit_forms.specs.Columns.{WritesName, WritesPrefix, WritesAmount, WritesKind, WritesValue, WritesBandwidth}
+use Rattle.edit_forms.specs.Columns.{WritesAnes}
 use Rattle.edit_forms.specs.Operations.{operation_in}
 
 -- what is read behind a column, given its value

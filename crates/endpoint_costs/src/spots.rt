@@ -41,8 +41,8 @@ fn pid_of_each(alloc: Global, ends: &[Endpoint]) -> Result<Vec<PidName>, AllocEr
     Ok(pids)
 }
 
-/// Endpoints in the byte order of their texts, each once, with the places of their PIDs among these. Costs one sort, and
-/// one search for each endpoint.
+/// Endpoints in the byte order of their texts, each once, with the places of their PIDs among these. Costs one sort,
+/// and one search for each endpoint.
 pub(crate) fn spots_of(
     alloc: Global,
     ends: Vec<Endpoint>,

@@ -1,6 +1,9 @@
-//! What holds of every merge patch (RFC 7396), and of operations (RFC 6902). Each law is the contract of a function that does nothing.
+//! What holds of every merge patch (RFC 7396), and of operations (RFC 6902). Each law is the contract of a function
+//! that does nothing.
 
-ghost use Rattle.json_patch.specs.Laws.{NullForAbsentChangesNothing, EmptyObjectChangesNothing, OtherValueReplaces, OperationsReadBack, OrderStays, MergeIsByMember, SameValuesSameMembers, DisjointPatchesCommute};
+ghost use Rattle.json_patch.specs.Laws.{NullForAbsentChangesNothing, EmptyObjectChangesNothing, OtherValueReplaces};
+ghost use Rattle.json_patch.specs.Laws.{OperationsReadBack, OrderStays, MergeIsByMember, SameValuesSameMembers};
+ghost use Rattle.json_patch.specs.Laws.{DisjointPatchesCommute};
 
 /// A null for a member that isn't there changes nothing, nor does an empty object.
 pub fn no_change()

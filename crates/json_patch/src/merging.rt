@@ -2,7 +2,8 @@ ghost use Rattle.std.specs.Prelude.{◌≡◌, IfOk, OnOk};
 ghost use Rattle.serde_json.specs.Data.{no_members, member};
 ghost use Rattle.json_tree.specs.Order.{AreInOrder};
 ghost use Rattle.json_tree.specs.Tree.{data_of, entries_data};
-ghost use Rattle.json_patch.specs.Merge.{members_in, without, value_or_null, is_null, patched, members_patched, merge_patched};
+ghost use Rattle.json_patch.specs.Merge.{members_in, without, value_or_null, is_null, patched, members_patched};
+ghost use Rattle.json_patch.specs.Merge.{merge_patched};
 
 use json_tree::{Name, Tree};
 use std::alloc::{AllocError, Global};

@@ -1,7 +1,8 @@
 -- JSON texts (RFC 8259) whose numbers are whole, as a tree holds them.
 use Rattle.std.specs.Prelude.{ℕ, ◌&&◌, List, Bool, true, false, if◌then◌else◌, Option, Some, None, Result, Ok, Err}
 use Rattle.std.specs.Str.{is_utf8}
-use Rattle.serde_json.specs.Data.{Num, unsigned, negative, float, Data, null, boolean, number, string, array, object, Items, no_items, item, Members, no_members, member}
+use Rattle.serde_json.specs.Data.{Num, unsigned, negative, float, Data, null, boolean, number, string, array, object}
+use Rattle.serde_json.specs.Data.{Items, no_items, item, Members, no_members, member}
 use Rattle.serde_json.specs.Read.{read}
 use Rattle.json_tree.specs.declared.fault.TreeFault.{TreeFault}
 use Rattle.json_tree.specs.declared.fault.TreeFault.TheVariants.{Syntax, NotWhole}

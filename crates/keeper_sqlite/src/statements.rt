@@ -1,7 +1,8 @@
 ghost use Rattle.std.specs.Prelude.{◌≡◌, [], ◌∷◌, IsTrue, IfOk, IfErr, OnOk};
 ghost use Rattle.sqlite.specs.declared.types.Value.TheVariants.{Int, Blob};
 ghost use Rattle.sqlite.specs.Held.{state};
-ghost use Rattle.sqlite.specs.State.{HasCleanDisk, Executes, ExecutesInside, Shown, FailsToQuery, IsUnchanged, IsNotRun};
+ghost use Rattle.sqlite.specs.State.{HasCleanDisk, Executes, ExecutesInside, Shown, FailsToQuery, IsUnchanged};
+ghost use Rattle.sqlite.specs.State.{IsNotRun};
 ghost use Rattle.sqlite.specs.State.{Survives, CommitsBy, CommitsShowing};
 ghost use Rattle.keeper_sqlite.specs.Texts.{probe_text, create_text, select_text, insert_text, delete_text};
 

@@ -4,8 +4,8 @@ use edit_forms::{FormFault, read_csv, read_json};
 use std::alloc::{AllocError, Global};
 use std::test::Fail;
 
-/// Bodies of CSV behind what each is read as: how many edits, or the fault. In them `~` stands for a line feed, `^` for the
-/// byte order mark and `!` for a byte that UTF-8 never has.
+/// Bodies of CSV behind what each is read as: how many edits, or the fault. In them `~` stands for a line feed, `^` for
+/// the byte order mark and `!` for a byte that UTF-8 never has.
 const CSV: &str = r#"Empty |
 Empty | ^
 Empty | op,net,a,b,c,d~

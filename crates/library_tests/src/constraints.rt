@@ -52,8 +52,8 @@ fn constraints_are_read_as_they_are_written(rt: HostRuntime) -> Result<(), Fail>
     Ok(())
 }
 
-/// Constraints, each with a cost and whether it holds of it. A float of 64 bits has no 9007199254740993: it rounds to the
-/// even number below.
+/// Constraints, each with a cost and whether it holds of it. A float of 64 bits has no 9007199254740993: it rounds to
+/// the even number below.
 const COSTS: &str = "\
 gt 1.5 => 1 false
 gt 1.5 => 2 true

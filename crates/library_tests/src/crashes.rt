@@ -1,5 +1,6 @@
-//! `keeper_sqlite` and `alto_desk` over files that break off: a disk passes so many calls on and fails each one after. What
-//! was synced is opened again, and holds each step that was acknowledged, or one more, and the rest goes on from there.
+//! `keeper_sqlite` and `alto_desk` over files that break off: a disk passes so many calls on and fails each one after.
+//! What was synced is opened again, and holds each step that was acknowledged, or one more, and the rest goes on from
+//! there.
 ghost use Rattle.std.specs.Prelude.{IsTrue};
 
 use alto_desk::{Command, Desk, Tally, init};
@@ -25,8 +26,8 @@ const STEPS: [&str; 5] = [
     "import pid-drop,metro,west,,,",
 ];
 
-/// Takes the steps from one number up to another, where step 0 begins the store, until one is refused. Gives the number of
-/// the first that isn't taken, and the records.
+/// Takes the steps from one number up to another, where step 0 begins the store, until one is refused. Gives the number
+/// of the first that isn't taken, and the records.
 fn run<K: Keeper + Drop>(
     alloc: Global,
     mut keeper: K,
@@ -141,8 +142,8 @@ fn steps_of(found: &Stored, kept: &[Stored], taken: usize) -> Option<usize> {
     None
 }
 
-/// That a crash of files leaves each step that was acknowledged, or one more, and that the rest goes on from there. Gives
-/// whether all were acknowledged.
+/// That a crash of files leaves each step that was acknowledged, or one more, and that the rest goes on from there.
+/// Gives whether all were acknowledged.
 fn survives<D: Crash + Drop>(
     rt: &(impl Abort + AllocGlobal),
     kept: &[Stored],

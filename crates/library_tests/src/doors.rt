@@ -39,8 +39,8 @@ fn connections(alloc: Global) -> Result<Vec<(MemLink, Option<Addr>)>, AllocError
     Ok(all)
 }
 
-/// Doors of which one waits at each side of an address. That of the operator's side gives two connections, and its accept
-/// number 1 fails. The open number 1 fails.
+/// Doors of which one waits at each side of an address. That of the operator's side gives two connections, and its
+/// accept number 1 fails. The open number 1 fails.
 fn two_doors(alloc: Global) -> Result<MemDoors<MemLink>, AllocError> {
     let opens = [1].to_vec(alloc)?;
     let accepts = [1].to_vec(alloc)?;

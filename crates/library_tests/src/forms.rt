@@ -23,8 +23,8 @@ ane-set,metro,core,max-reservable-bandwidth,1000,|AneSet { net: metro, ane: core
 path-put,metro,east,west,core tail,|PathPut { net: metro, source: east, destination: west, anes: AneNames { names: [core, tail] } }
 path-del,metro,east,west,,|PathDel { net: metro, source: east, destination: west }";
 
-/// Lines at a limit and one step past it, each with what it reads as where it is the second of a body. In them `~` stands
-/// for U+007F, `^` for 64 letters and `%` for 21 names, each behind a space.
+/// Lines at a limit and one step past it, each with what it reads as where it is the second of a body. In them `~`
+/// stands for U+007F, `^` for 64 letters and `%` for 21 names, each behind a space.
 const LIMITS: &str = "net-put,metro,,,,|BadColumn(2, 1)
 net-drop,me.tro,,,,|BadColumn(2, 2)
 net-drop,metro,,,,x|BadColumn(2, 6)

@@ -1,6 +1,6 @@
-//! Tests of the libraries, in one crate, so that the gate proves none of these twice: printed texts, tables from outside,
-//! and one use of each call that allocates, on ample memory. What a contract pins has no test. The program's tests are
-//! its own.
+//! Tests of the libraries, in one crate, so that the gate proves none of these twice: printed texts, tables from
+//! outside, and one use of each call that allocates, on ample memory. What a contract pins has no test. The program's
+//! tests are its own.
 #![tactic(auto)]
 
 #[cfg(test)]

@@ -13,8 +13,8 @@ fn outcome<K: Kind>(rt: &HostRuntime, text: &[u8]) -> Result<(), NameFault> {
     Ok(())
 }
 
-/// The bytes that are names of the kind by themselves, how many of the lengths from 1 to 65 a name may have, and the least
-/// name.
+/// The bytes that are names of the kind by themselves, how many of the lengths from 1 to 65 a name may have, and the
+/// least name.
 fn bounds_of<K: Kind>(rt: &HostRuntime) -> Result<String, Fail> {
     let mut bounds = String::new(rt.alloc());
     for byte in 0..=u8::MAX {

@@ -1,5 +1,5 @@
-//! Texts near good addresses, and what Python's ipaddress says of each: its family and number, or how far it goes along.
-//! Written by tools/near-addresses.py.
+//! Texts near good addresses, and what Python's ipaddress says of each: its family and number, or how far it goes
+//! along. Written by tools/near-addresses.py.
 
 pub(crate) const TEXTS: &str = "\
 192.0.2.1 v4 c0000201

@@ -1,5 +1,5 @@
-//! `alto_desk`, through it `alto_rules` and `alto_edits`: each rule by an import that breaks it, the first of two where both
-//! stand, and that a refused import leaves everything.
+//! `alto_desk`, through it `alto_rules` and `alto_edits`: each rule by an import that breaks it, the first of two where
+//! both stand, and that a refused import leaves everything.
 use crate::desks::{imported, listing, new_desk};
 use std::process::Abort;
 use std::test::Fail;

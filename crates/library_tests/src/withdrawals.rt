@@ -3,8 +3,8 @@ use crate::desks::{found, imported, listing, new_desk};
 use std::process::Abort;
 use std::test::Fail;
 
-/// Imports in turn, `~` between their records, behind what there is after each: batches, rows, and the kept numbers of each
-/// declared resource. The window is 8, so the ninth number takes the place of the first.
+/// Imports in turn, `~` between their records, behind what there is after each: batches, rows, and the kept numbers of
+/// each declared resource. The window is 8, so the ninth number takes the place of the first.
 const PIDS: &str = "\
 1 with 5 rows, metro 1-1, metro:prop 1-1 | net-add,metro,,,,
 2 with 7 rows, metro 1-2, metro:prop 1-2 | pid-add,metro,east,,,~pid-add,metro,west,,,
@@ -23,8 +23,8 @@ const PIDS: &str = "\
 15 with 18 rows, metro 3-10, metro:cost:routingcost 2-9, metro:prop 4-11 | cost-put,metro,routingcost,west,east,7
 16 with 12 rows, metro 4-11, metro:cost:routingcost 3-10, metro:prop 5-12 | pid-drop,metro,east,,,";
 
-/// The same of metrics and networks that are withdrawn and declared again. What isn't declared has no number, and goes on
-/// from its last where it is declared again; an import that withdraws and declares a thing leaves what was kept.
+/// The same of metrics and networks that are withdrawn and declared again. What isn't declared has no number, and goes
+/// on from its last where it is declared again; an import that withdraws and declares a thing leaves what was kept.
 const WITHDRAWALS: &str = "\
 1 with 9 rows, metro 1-1, metro:cost:routingcost 1-1, metro:prop 1-1 | net-add,metro,,,,~pid-add,metro,east,,,~metric-add,metro,routingcost,,,~cost-put,metro,routingcost,east,east,7
 2 with 8 rows, metro 1-1, metro:cost:routingcost 1-2, metro:prop 1-1 | metric-drop,metro,routingcost,,,~metric-add,metro,routingcost,,,

@@ -1,5 +1,6 @@
 -- The network map of a network (RFC 7285, section 11.2.1.6): each PID with its prefixes by family.
-use Rattle.std.specs.Prelude.{List, [], ◌∷◌, Bool, true, false, ◌&&◌, Option, Some, None, filter, not, codes, if◌then◌else◌}
+use Rattle.std.specs.Prelude.{List, [], ◌∷◌, Bool, true, false, ◌&&◌, Option, Some, None, filter, not, codes}
+use Rattle.std.specs.Prelude.{if◌then◌else◌}
 use Rattle.std.specs.List.{filter_map}
 use Rattle.serde_json.specs.Data.{Data, string}
 use Rattle.json_tree.specs.Document.{array_of, object_of}
@@ -50,7 +51,8 @@ is_empty (text ∷ texts) = false
 abbrev pub families : List Name
 families = codes "ipv4" ∷ codes "ipv6" ∷ []
 
--- the version tag of a network's map: its resource id, which is the network's name, and the tag of its version (section 10.3)
+-- the version tag of a network's map: its resource id, which is the network's name, and the tag of its version (section
+-- 10.3)
 abbrev pub version_tag : Rows → Name → Data
 version_tag rows net =
     object_of ((codes "resource-id", string net) ∷ (codes "tag", string (tag_of rows (resource.Net net))) ∷ [])

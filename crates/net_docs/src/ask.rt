@@ -86,8 +86,9 @@ impl Model for NetAsk {
 ///
 /// # Errors
 ///
-/// `Bad` with `MissingField` where it has no `pids`; with `InvalidFieldType` where `pids` isn't a list of texts, or `address-types` is
-/// there and isn't one; with `InvalidFieldValue` where a text of `address-types` is no family. The first fault is told.
+/// `Bad` with `MissingField` where it has no `pids`; with `InvalidFieldType` where `pids` isn't a list of texts, or
+/// `address-types` is there and isn't one; with `InvalidFieldValue` where a text of `address-types` is no family. The
+/// first fault is told.
 #[tactic(auto, unfolding(crate::specs::Ask::net_ask))]
 pub fn read_net_ask(alloc: Global, ask: &Tree) -> Result<NetAsk, AskFault>
     ensures ok { IfOk result (λ read. net_ask (data_of ask.now) ≡ Ok read) }

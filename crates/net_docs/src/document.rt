@@ -45,7 +45,8 @@ pub(crate) fn meta_of(alloc: Global, version_tag: Tree) -> Result<Tree, AllocErr
     Ok(meta.into_tree())
 }
 
-/// The version tag of a network's map (RFC 7285, section 10.3), by which the map's dependents name it too. Two searches.
+/// The version tag of a network's map (RFC 7285, section 10.3), by which the map's dependents name it too. Two
+/// searches.
 #[tactic(auto, unfolding(json_tree::specs::Tree::data_of, json_tree::specs::Document::with_member))]
 pub fn version_tag<R: RowStore>(alloc: Global, rows: &R, net: &NetName) -> Result<Tree, AllocError>
     ensures { IfOk result (λ tree. data_of tree ≡ spec.version_tag (R.rows rows.now) net.now) }

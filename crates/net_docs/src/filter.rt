@@ -21,8 +21,9 @@ use alto_rows::{Key, RowStore, Span, rows_in};
 use json_tree::{Members, Tree};
 use std::alloc::{AllocError, Global};
 
-/// The network map of a declared network, cut to what is asked (RFC 7285, section 11.3.1.5). Costs three searches; where all PIDs
-/// are asked for, what the whole map costs; else for each PID that is, two searches and one walk over its prefixes.
+/// The network map of a declared network, cut to what is asked (RFC 7285, section 11.3.1.5). Costs three searches;
+/// where all PIDs are asked for, what the whole map costs; else for each PID that is, two searches and one walk over
+/// its prefixes.
 #[tactic(auto, unfolding(alto_maps::specs::Shape::document))]
 pub fn filter_net<R: RowStore>(
     alloc: Global,

@@ -7,8 +7,8 @@ pub fn map_is_of_its_keys()
     ensures { MapIsOfItsKeys }
 {}
 
-/// Network maps of good rows that differ by keys differ at the places of these keys alone, so that what leads from map to
-/// map may speak of these places alone.
+/// Network maps of good rows that differ by keys differ at the places of these keys alone, so that what leads from map
+/// to map may speak of these places alone.
 pub fn maps_differ_at_places()
     ensures same { MapsDifferAtPlaces }
     ensures nowhere { OtherKeysTouchNowhere }

@@ -1,5 +1,5 @@
-//! Network maps (RFC 7285, section 11.2.1): the PIDs of a network with their prefixes, under the version tag of the rows that
-//! they are read from.
+//! Network maps (RFC 7285, section 11.2.1): the PIDs of a network with their prefixes, under the version tag of the
+//! rows that they are read from.
 //!
 //! ```text
 //! {"meta":{"vtag":{"resource-id":"metro","tag":"e1-3"}},

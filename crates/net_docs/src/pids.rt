@@ -11,8 +11,8 @@ use alto_rows::{Key, RowStore, Span, Value, rows_in};
 use json_tree::{Members, Name, Tree};
 use std::alloc::{AllocError, Global};
 
-/// The groups of a network map: each PID of the network with its prefixes. One walk over the rows of these PIDs, and one over
-/// those of their prefixes: both are in the order of the PIDs.
+/// The groups of a network map: each PID of the network with its prefixes. One walk over the rows of these PIDs, and
+/// one over those of their prefixes: both are in the order of the PIDs.
 pub(crate) fn groups<R: RowStore>(
     alloc: Global,
     rows: &R,

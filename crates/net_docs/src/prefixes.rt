@@ -7,7 +7,8 @@ ghost use Rattle.alto_addr.specs.Text.{prefix_text};
 ghost use Rattle.net_docs.specs.NetworkMap.{family};
 ghost use Rattle.std.specs.Ordering.{is_lt};
 ghost use Rattle.alto_rows.specs.Order.{name_cmp};
-ghost use Rattle.net_docs.specs.Prefixes.{from_pid, group_of, leading_of, prefix_in, prefixes_owned, texts_in_family, with_texts};
+ghost use Rattle.net_docs.specs.Prefixes.{from_pid, group_of, leading_of, prefix_in, prefixes_owned, texts_in_family};
+ghost use Rattle.net_docs.specs.Prefixes.{with_texts};
 
 use alto_addr::{Addr, Prefix, print_prefix};
 use alto_names::{NetName, PidName};

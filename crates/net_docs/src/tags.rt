@@ -13,8 +13,8 @@ use json::Writer;
 use json_tree::Tree;
 use std::alloc::{AllocError, Global};
 
-/// The version tags that a map tells which depends on a network's map (RFC 7285, section 11.2.3.6): that map's alone. Two
-/// searches.
+/// The version tags that a map tells which depends on a network's map (RFC 7285, section 11.2.3.6): that map's alone.
+/// Two searches.
 pub fn dependent_tags<R: RowStore>(
     alloc: Global,
     rows: &R,

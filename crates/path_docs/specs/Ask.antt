@@ -1,5 +1,5 @@
--- What a client may ask of the paths of a network (RFC 9275, section 7.2.3): pairs of PIDs, and a property of the ANEs on
--- their paths.
+-- What a client may ask of the paths of a network (RFC 9275, section 7.2.3): pairs of PIDs, and a property of the ANEs
+-- on their paths.
 use Rattle.std.specs.Prelude.{Bool, true, false, Option, Some, None, Result, Ok, Err, codes}
 use Rattle.serde_json.specs.Data.{Data, Items, no_items, item}
 use Rattle.serde_json.specs.Find.{get, as_str}

@@ -1,5 +1,5 @@
--- The body of an answer (RFC 9275, section 7.2.6; RFC 2387): its two parts, each behind a boundary with its content id and
--- its type.
+-- The body of an answer (RFC 9275, section 7.2.6; RFC 2387): its two parts, each behind a boundary with its content id
+-- and its type.
 use Rattle.std.specs.Prelude.{◌++◌, codes}
 use Rattle.serde_json.specs.Data.{Data}
 use Rattle.serde_json.specs.Written.{compact_text}

@@ -17,8 +17,8 @@ use std::collections::BTreeMap;
 /// A key with the value that it then has, if any.
 pub(crate) type Change = (Key, Option<Value>);
 
-/// What the last write of each key gives it, in the order of the keys. One comparison a write where their keys rise, else
-/// w writes cost w log w.
+/// What the last write of each key gives it, in the order of the keys. One comparison a write where their keys rise,
+/// else w writes cost w log w.
 pub(crate) fn changes_of(alloc: Global, writes: &[Write]) -> Result<Vec<Change>, AllocError>
     ensures does { IfOk result (λ changes. DoAs writes.now changes.items) }
     ensures ordered { IfOk result (λ changes. AreOrdered changes.items) }

@@ -10,8 +10,8 @@ use alto_rows::{Key, Value};
 use std::alloc::AllocError;
 use std::cmp::Ordering;
 
-/// Rows with others behind them, those of a chunk after changes. One pass over both, and for each change a comparison or,
-/// where rows stand before its key, one search.
+/// Rows with others behind them, those of a chunk after changes. One pass over both, and for each change a comparison
+/// or, where rows stand before its key, one search.
 pub(crate) fn with_changed(
     done: Vec<(Key, Value)>,
     rows: &[(Key, Value)],

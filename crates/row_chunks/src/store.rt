@@ -72,8 +72,8 @@ impl RowStore for Chunks {
         self.pages.len()
     }
 
-    /// Six searches: for each end of the span one among the first keys of pages, one among those of a page's chunks, and
-    /// one in a chunk.
+    /// Six searches: for each end of the span one among the first keys of pages, one among those of a page's chunks,
+    /// and one in a chunk.
     fn count_in(&self, span: &Span) -> usize {
         let from = self.pages.count_behind(&Cut::BeforeSpan(span));
         let past = self.pages.count_behind(&Cut::BehindSpan(span));

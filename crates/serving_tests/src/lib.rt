@@ -1,5 +1,5 @@
-//! Tests of what is served, in one crate, so that the gate proves no crate of the program twice: connections by the bytes that
-//! they are answered with, seats of one hub, commands over a store, and words of the command line.
+//! Tests of what is served, in one crate, so that the gate proves no crate of the program twice: connections by the
+//! bytes that they are answered with, seats of one hub, commands over a store, and words of the command line.
 #![tactic(auto)]
 
 #[cfg(test)]

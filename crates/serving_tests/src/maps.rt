@@ -114,7 +114,8 @@ POST /filter/cost/other | Content-Type: application/alto-costmapfilter+json~ | {
 POST /filter/cost/metro | Content-Type: application/alto-networkmapfilter+json~ | {} | 415 Unsupported Media Type | json | {"status":415}
 GET /filter/cost/metro | | | 405 Method Not Allowed | json~Allow: POST | {"status":405}"#;
 
-/// Look-ups behind the four imports: the first and the last address of a prefix, those beside it, and what is no address.
+/// Look-ups behind the four imports: the first and the last address of a prefix, those beside it, and what is no
+/// address.
 const LOOKUPS: &str = r#"GET /lookup/metro/ipv4:192.0.2.0 | | | 200 OK | json | {"pid":"east"}
 GET /lookup/metro/ipv4:192.0.2.255 | | | 200 OK | json | {"pid":"east"}
 GET /lookup/metro/ipv4%3A192.0.2.9 | | | 200 OK | json | {"pid":"east"}

@@ -34,7 +34,8 @@ POST /endpointcost/other | Content-Type: application/alto-endpointcostparams+jso
 POST /endpointcost/metro | Content-Type: application/alto-costmapfilter+json~ | {} | 415 Unsupported Media Type | json | {"status":415}
 GET /endpointcost/metro | | | 405 Method Not Allowed | json~Allow: POST | {"status":405}"#;
 
-/// Filtered property maps behind the four imports: inherited properties and PIDs of addresses, and each fault of their bodies.
+/// Filtered property maps behind the four imports: inherited properties and PIDs of addresses, and each fault of their
+/// bodies.
 const PROPERTY_FILTERS: &str =
     r#"POST /edits/i5 | Content-Type: text/csv~ | prop-put,metro,ipv4:192.0.0.0/16,region,t,north~prop-put,metro,ipv4:192.0.2.0/24,region,t,lab~ | 200 OK | json | {"moment":100,"n":5}
 POST /filter/prop/metro | Content-Type: application/alto-propmapparams+json~ | {"entities":["ipv4:192.0.2.9"],"properties":["region","metro.pid"]} | 200 OK | alto-propmap+json | {"meta":{"dependent-vtags":[{"resource-id":"metro","tag":"e1-3"}]},"property-map":{"ipv4:192.0.2.9":{"metro.pid":"east","region":"lab"}}}

@@ -6,8 +6,8 @@ use alto_serve::FixedClock;
 use std::alloc::{AllocError, Global};
 use std::test::Fail;
 
-/// Commands over one vault, each with what the console gives, the status, and what is printed; `~` stands for LF and `^`
-/// for CR LF.
+/// Commands over one vault, each with what the console gives, the status, and what is printed; `~` stands for LF and
+/// `^` for CR LF.
 const COMMANDS: &str = r#"init x | | 0 | initialised e1 window 8~
 init x | | 10 | already initialised~
 show x metro | | 8 | unknown resource~

@@ -10,8 +10,9 @@ use alto_serve::FixedClock;
 use std::alloc::{AllocError, Global};
 use std::test::Fail;
 
-/// The requests of one connection, each with its reply, in six parts: the method and the target, the fields and the body of the request,
-/// where `~` stands for an end of line; the status, the media type and further fields, and the body of the reply.
+/// The requests of one connection, each with its reply, in six parts: the method and the target, the fields and the
+/// body of the request, where `~` stands for an end of line; the status, the media type and further fields, and the
+/// body of the reply.
 const TALK: &str = r#"GET /maps/metro | | | 404 Not Found | json | {"status":404,"why":"resource"}
 POST /edits/i1 | Content-Type: text/csv~ | net-add,metro,,,,~ | 200 OK | json | {"moment":100,"n":1}
 GET /maps/metro?x=1 | | | 200 OK | alto-networkmap+json | {"meta":{"vtag":{"resource-id":"metro","tag":"e1-1"}},"network-map":{}}

@@ -13,8 +13,8 @@ use std::sync::Wait;
 use std::test::Fail;
 use std::thread::Threads;
 
-/// Command lines over one vault, in turn, each with what the console gives, the status, and how what is printed begins; `~` stands
-/// for an end of line.
+/// Command lines over one vault, in turn, each with what the console gives, the status, and how what is printed begins;
+/// `~` stands for an end of line.
 const LINES: &str = r#"show x metro | | 9 | damaged row 0~
 init x --window=8 --epoch e1 | | 0 | initialised e1 window 8~
 import x --id i1 --form csv | net-add,metro,,,,~ | 0 | accepted n 1 moment 100~
@@ -57,8 +57,8 @@ fn ran<H: Threads + Wait + Sync, B: Bell + Sync>(
     Ok((status, link))
 }
 
-/// The status of a run of the program. The clauses of `run` aren't computed for the vault and the console in memory, since
-/// nothing here is proved by them.
+/// The status of a run of the program. The clauses of `run` aren't computed for the vault and the console in memory,
+/// since nothing here is proved by them.
 fn status_of<
     H: Threads + Wait + Sync,
     V: Vault<Keeper: Send>,

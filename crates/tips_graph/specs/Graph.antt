@@ -1,5 +1,6 @@
 -- What the updates graph of a resource keeps (RFC 9569, section 3).
-use Rattle.std.specs.Prelude.{ℕ, ◌+◌, ◌-◌, ◌&&◌, ◌==◌, nat_lt, nat_le, Bool, false, List, [], ◌∷◌, ◌++◌, length, take, drop, All, Option, Some, None, option_map, if◌then◌else◌, ◌≡◌}
+use Rattle.std.specs.Prelude.{ℕ, ◌+◌, ◌-◌, ◌&&◌, ◌==◌, nat_lt, nat_le, Bool, false, List, [], ◌∷◌, ◌++◌, length, take}
+use Rattle.std.specs.Prelude.{drop, All, Option, Some, None, option_map, if◌then◌else◌, ◌≡◌}
 use Rattle.std.specs.List.{flat_map, slice_get}
 use Rattle.alto_rows.specs.declared.key.Key.{Key}
 use Rattle.alto_rows.specs.Rows.{Rows}

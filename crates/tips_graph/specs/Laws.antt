@@ -1,11 +1,13 @@
 -- What holds of every updates graph, whatever was pushed: the statements of the laws. The pushes make the numbers after
 -- `before`.
-use Rattle.std.specs.Prelude.{◌≡◌, ℕ, ◌+◌, ◌-◌, ◌≤◌, ◌<◌, ◌↔◌, ◌⊎◌, List, [], ◌∷◌, ◌++◌, length, take, drop, IsTrue, Option, Some, option_map}
+use Rattle.std.specs.Prelude.{◌≡◌, ℕ, ◌+◌, ◌-◌, ◌≤◌, ◌<◌, ◌↔◌, ◌⊎◌, List, [], ◌∷◌, ◌++◌, length, take, drop, IsTrue}
+use Rattle.std.specs.Prelude.{Option, Some, option_map}
 use Rattle.std.specs.List.{flat_map, slice_get}
 use Rattle.tips_graph.specs.declared.status.EdgeStatus.{EdgeStatus}
 use Rattle.tips_graph.specs.declared.status.EdgeStatus.TheVariants.{Awaited, Here}
 use Rattle.tips_graph.specs.Edges.{is_shape, recommended_edge}
-use Rattle.tips_graph.specs.Graph.{Push, graph_from, with_push, first_of, last_of, keeps, rows_at, status_of, is_step_here, span_of}
+use Rattle.tips_graph.specs.Graph.{Push, graph_from, with_push, first_of, last_of, keeps, rows_at, status_of}
+use Rattle.tips_graph.specs.Graph.{is_step_here, span_of}
 use Rattle.tips_graph.specs.Keys.{key_set}
 use Rattle.tips_graph.specs.Table.{Says}
 

@@ -1,7 +1,9 @@
-ghost use Rattle.std.specs.Prelude.{◌≡◌, ◌≤◌, ◌<◌, ◌+◌, ◌-◌, ◌*◌, ◌^◌, ◌∷◌, ◌++◌, [], IfOk, IfSome, map, option_copied, option_map, slice_get, None, if◌then◌else◌, IsTrue};
+ghost use Rattle.std.specs.Prelude.{◌≡◌, ◌≤◌, ◌<◌, ◌+◌, ◌-◌, ◌*◌, ◌^◌, ◌∷◌, ◌++◌, [], IfOk, IfSome, map, option_copied};
+ghost use Rattle.std.specs.Prelude.{option_map, slice_get, None, if◌then◌else◌, IsTrue};
 ghost use Rattle.std.specs.Arc.{arc_value};
 ghost use Rattle.tips_graph.specs.Edges.{recommended_edge};
-ghost use Rattle.tips_graph.specs.Graph.{Push, graph_of, graph_from, with_push, cut_at, first_of, last_of, keeps, span_of, status_of};
+ghost use Rattle.tips_graph.specs.Graph.{Push, graph_of, graph_from, with_push, cut_at, first_of, last_of, keeps};
+ghost use Rattle.tips_graph.specs.Graph.{span_of, status_of};
 ghost use Rattle.tips_graph.specs.Graph as spec;
 ghost use Rattle.tips_graph.specs.Keys.{key_set};
 ghost use Rattle.tips_graph.specs.Shortcuts.{push_of, IsStride, IsListOfEdge, HasLists, before_kept};

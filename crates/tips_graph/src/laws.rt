@@ -1,6 +1,8 @@
 //! What holds of every updates graph, whatever was pushed. Each law is the contract of a function that does nothing.
 
-ghost use Rattle.tips_graph.specs.Laws.{OnePushMore, RowsAreThoseOfThePush, SpanIsOfThePushes, EachEdgeHasOneStatus, KeptStepsAreHere, KeptShapesAreHere, RecommendedIsHereOrAwaited, RecommendedIsLongest};
+ghost use Rattle.tips_graph.specs.Laws.{OnePushMore, RowsAreThoseOfThePush, SpanIsOfThePushes, EachEdgeHasOneStatus};
+ghost use Rattle.tips_graph.specs.Laws.{KeptStepsAreHere, KeptShapesAreHere, RecommendedIsHereOrAwaited};
+ghost use Rattle.tips_graph.specs.Laws.{RecommendedIsLongest};
 
 /// One push more on the graph of pushes is the graph of one push more.
 pub fn a_push_goes_on()

@@ -1,9 +1,11 @@
-ghost use Rattle.std.specs.Prelude.{◌≡◌, ◌≢◌, Ok, Err, Some, IfOk, IfErr, IfSome, OnOk, MatchOption, option_map, option_and_then};
+ghost use Rattle.std.specs.Prelude.{◌≡◌, ◌≢◌, Ok, Err, Some, IfOk, IfErr, IfSome, OnOk, MatchOption, option_map};
+ghost use Rattle.std.specs.Prelude.{option_and_then};
 ghost use Rattle.serde_json.specs.Find.{as_object};
 ghost use Rattle.json_tree.specs.Document.{with_member};
 ghost use Rattle.json_tree.specs.Order.{AreInOrder};
 ghost use Rattle.json_tree.specs.Tree.{data_of, entries_data};
-ghost use Rattle.json_patch.specs.Operations.{acted, changed_at, changed_in, refusal_of, fault_at, at_place, operated, operations_applied, operation_of, operations_of};
+ghost use Rattle.json_patch.specs.Operations.{acted, changed_at, changed_in, refusal_of, fault_at, at_place, operated};
+ghost use Rattle.json_patch.specs.Operations.{operations_applied, operation_of, operations_of};
 
 use crate::operations::op::Op;
 use crate::operations::patch_fault::PatchFault;

@@ -1,4 +1,5 @@
-ghost use Rattle.std.specs.Prelude.{◌≡◌, ◌≢◌, ◌+◌, ◌<◌, ◌^◌, ◌∷◌, ◌++◌, length, slice_index, EachIndex, IfOk, IfErr, MatchOption, encode_utf8};
+ghost use Rattle.std.specs.Prelude.{◌≡◌, ◌≢◌, ◌+◌, ◌<◌, ◌^◌, ◌∷◌, ◌++◌, length, slice_index, EachIndex, IfOk, IfErr};
+ghost use Rattle.std.specs.Prelude.{MatchOption, encode_utf8};
 ghost use Rattle.json_tree.specs.Escape.{EndsNoEscape, IsFaultOfToken};
 ghost use Rattle.json_tree.specs.Pointer.{tilde, slash, escaped, token_of, pointer_text, IsFaultOf};
 
