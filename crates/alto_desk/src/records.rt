@@ -13,7 +13,7 @@ use alto_keeper::{Stored, StoredRow};
 use alto_names::Epoch;
 use alto_rows::Batch;
 use base_code::{Base, BaseFault, decode_base};
-use batch_code::{CodeFault, decode, decode_head};
+use batch_code::{CodeFault, Names, decode, decode_head};
 use std::alloc::{AllocError, Global};
 
 /// What records spell: the epoch and the window with which a book began, its base, and its batches.
@@ -26,7 +26,7 @@ pub(crate) struct Records {
 }
 
 /// What these records spell, or the first row or piece that isn't in its place: the first row, then the pieces of the
-/// base, then the other rows.
+/// base, then the other rows. All keys share names.
 pub(crate) fn read_records(alloc: Global, stored: Stored) -> Result<Records, OpenFault>
     ensures spelled { IfOk result (λ records.
         stored ≡ records_of records.epoch records.window records.base records.batches.items) }
@@ -41,8 +41,9 @@ pub(crate) fn read_records(alloc: Global, stored: Stored) -> Result<Records, Ope
         return Err(OpenFault::Damaged(0));
     };
     let (epoch, window) = read_head(alloc, first)?;
-    let base = read_base(alloc, base)?;
-    let batches = read_batches(alloc, base.receipts.len() as u64, rest)?;
+    let mut names = Names::new(alloc);
+    let base = read_base(alloc, &mut names, base)?;
+    let batches = read_batches(alloc, &mut names, base.receipts.len() as u64, rest)?;
     Ok(Records {
         epoch,
         window,
@@ -68,13 +69,13 @@ fn read_head(alloc: Global, row: &StoredRow) -> Result<(Epoch, u32), OpenFault>
 }
 
 /// The base whose pieces these rows are, or the first that isn't a piece in its place.
-fn read_base(alloc: Global, rows: Vec<StoredRow>) -> Result<Base, OpenFault>
+fn read_base(alloc: Global, names: &mut Names, rows: Vec<StoredRow>) -> Result<Base, OpenFault>
     ensures ok { IfOk result (λ base. AreOf rows.items base) }
     ensures err { IfErr result (λ fault. TellsBase fault rows.items) }
 {
     let count = rows.len();
     let pieces = pieces_of(alloc, rows)?;
-    match decode_base(alloc, &pieces) {
+    match decode_base(alloc, names, &pieces) {
         Ok(base) => {
             if pieces.len() == count {
                 Ok(base)
@@ -102,7 +103,12 @@ fn pieces_of(alloc: Global, rows: Vec<StoredRow>) -> Result<Vec<Vec<u8>>, AllocE
 }
 
 /// The batches that the rows behind the first spell, behind base `b`.
-fn read_batches(alloc: Global, b: u64, rows: &[StoredRow]) -> Result<Vec<Batch>, OpenFault>
+fn read_batches(
+    alloc: Global,
+    names: &mut Names,
+    b: u64,
+    rows: &[StoredRow],
+) -> Result<Vec<Batch>, OpenFault>
     requires { b + length rows.now + 1 < 2 ^ 64 }
     ensures spelled { IfOk result (λ batches. rows.now ≡ numbered (b + 1) (map batch_bytes batches.items)) }
     ensures storable { IfOk result (λ batches. All IsStorable batches.items) }
@@ -111,13 +117,18 @@ fn read_batches(alloc: Global, b: u64, rows: &[StoredRow]) -> Result<Vec<Batch>,
     let mut batches = Vec::with_capacity(alloc, rows.len())?;
     for row in rows {
         let number = b + batches.len() as u64 + 1;
-        batches.push(read_batch(alloc, number, row)?)?;
+        batches.push(read_batch(alloc, names, number, row)?)?;
     }
     Ok(batches)
 }
 
 /// The batch with this number, which its row spells.
-fn read_batch(alloc: Global, number: u64, row: &StoredRow) -> Result<Batch, OpenFault>
+fn read_batch(
+    alloc: Global,
+    names: &mut Names,
+    number: u64,
+    row: &StoredRow,
+) -> Result<Batch, OpenFault>
     ensures ok { IfOk result (λ batch. IsStorable batch
         × (row.now ≡ record { n = pos number; bytes = batch_bytes batch })) }
     ensures err { IfErr result (λ fault. TellsRow fault number row.now) }
@@ -125,7 +136,7 @@ fn read_batch(alloc: Global, number: u64, row: &StoredRow) -> Result<Batch, Open
     if !is_place(row.n, number) {
         return Err(OpenFault::Damaged(number));
     }
-    match decode(alloc, &row.bytes) {
+    match decode(alloc, names, &row.bytes) {
         Ok(batch) => Ok(batch),
         Err(CodeFault::BadAt(_)) => Err(OpenFault::Damaged(number)),
         Err(CodeFault::Memory) => Err(OpenFault::Memory),

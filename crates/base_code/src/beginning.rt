@@ -9,6 +9,7 @@ use crate::part::next_part;
 use crate::receipt::read_receipts;
 use crate::rows::read_rows;
 use alto_rows::{Key, Value};
+use batch_code::Names;
 use code_bytes::{Stop, read_number, read_one};
 use std::alloc::Global;
 use std::marker::Model;
@@ -55,7 +56,7 @@ impl Beginning {
     }
 
     /// Reads the next piece.
-    pub(crate) fn add(&mut self, alloc: Global, piece: &[u8]) -> Result<(), Stop>
+    pub(crate) fn add(&mut self, alloc: Global, names: &mut Names, piece: &[u8]) -> Result<(), Stop>
         requires { IsBeginning self.old }
         ensures ok { OnOk result (IsBeginning self.new
             × (beginning_pieces self.new ≡ beginning_pieces self.old ++ (piece.now ∷ []))) }
@@ -71,7 +72,7 @@ impl Beginning {
         if count == 0 {
             return Err(Stop::Left(0));
         }
-        read_rows(alloc, &mut self.rows, piece, count)
+        read_rows(alloc, names, &mut self.rows, piece, count)
     }
 
     /// The base, if these are all its receipts and rows.

@@ -10,7 +10,7 @@ ghost use Rattle.base_code.specs.Parts.{Denies, HasItems, HasRows};
 
 use crate::part::read_head;
 use alto_rows::{Key, Value, Write};
-use batch_code::writes_of;
+use batch_code::{Names, writes_of};
 use code_bytes::Stop;
 use std::alloc::Global;
 use std::cmp::Ordering;
@@ -18,6 +18,7 @@ use std::cmp::Ordering;
 /// Reads a piece of `count` rows, and adds them to those before.
 pub(crate) fn read_rows(
     alloc: Global,
+    names: &mut Names,
     rows: &mut Vec<(Key, Value)>,
     piece: &[u8],
     count: u64,
@@ -28,19 +29,19 @@ pub(crate) fn read_rows(
         × (rows.new.items ≡ rows.old.items ++ more)) }
     ensures stops { IfErr result (Denies ((more : Rows) × HasRows rows.old.items count piece.now more)) }
 {
-    let writes = read_puts(alloc, piece, count)?;
+    let writes = read_puts(alloc, names, piece, count)?;
     push_puts(rows, writes)
 }
 
 /// Reads a piece of `count` writes.
-fn read_puts(alloc: Global, piece: &[u8], count: u64) -> Result<Vec<Write>, Stop>
+fn read_puts(alloc: Global, names: &mut Names, piece: &[u8], count: u64) -> Result<Vec<Write>, Stop>
     requires { count ≤ 4096 }
     ensures ok { IfOk result (λ writes. HasItems 0x45 write_bytes IsStored count piece.now writes.items) }
     ensures stops { IfErr result (Denies ((writes : List TheWrite)
         × HasItems 0x45 write_bytes IsStored count piece.now writes)) }
 {
     let rest = read_head(piece, 0x45, count)?;
-    let (writes, rest) = writes_of(alloc, count, rest)?;
+    let (writes, rest) = writes_of(alloc, names, count, rest)?;
     if !rest.is_empty() {
         return Err(Stop::Left(rest.len()));
     }

@@ -7,21 +7,26 @@ ghost use Rattle.batch_code.specs.Spelling.{batch_bytes, head_bytes, write_bytes
 ghost use Rattle.batch_code.specs.Bodies.{accepted};
 ghost use Rattle.batch_code.specs.Storable.{IsHead, IsStorable, IsStored};
 
+use crate::names::Names;
 use crate::write::read_writes;
 use alto_names::{Epoch, ImportId};
 use alto_rows::{Batch, Write};
 use code_bytes::{Stop, read_fixed, read_name, read_number, read_one};
 use std::alloc::Global;
 
-/// Reads a batch from the front of bytes.
-pub(crate) fn read_batch(alloc: Global, bytes: &[u8]) -> Result<(Batch, &[u8]), Stop>
+/// Reads a batch from the front of bytes. Its keys share names.
+pub(crate) fn read_batch<'a>(
+    alloc: Global,
+    names: &mut Names,
+    bytes: &'a [u8],
+) -> Result<(Batch, &'a [u8]), Stop>
     ensures ok { IfOk result (λ x. IsStorable x.0 × (bytes.now ≡ batch_bytes x.0 ++ x.1.now)) }
     ensures stops { IfErr result (Stops BatchTexts bytes.now) }
 {
     let rest = read_one(bytes, 0x42)?;
     let rest = read_one(rest, 0x01)?;
     let (id, rest) = read_name(alloc, rest)?;
-    let (body, rest) = read_body(alloc, rest)?;
+    let (body, rest) = read_body(alloc, names, rest)?;
     Ok((batch_of(id, body), rest))
 }
 
@@ -49,7 +54,11 @@ struct Body {
 }
 
 /// Reads what a batch holds behind its id.
-fn read_body(alloc: Global, bytes: &[u8]) -> Result<(Body, &[u8]), Stop>
+fn read_body<'a>(
+    alloc: Global,
+    names: &mut Names,
+    bytes: &'a [u8],
+) -> Result<(Body, &'a [u8]), Stop>
     ensures ok { IfOk result (λ x. (length x.0.digest ≡ 32) × (x.0.moment < 2 ^ 64)
         × All IsStored x.0.writes.items × (length x.0.writes.items ≤ 16384)
         × (bytes.now ≡ (x.0.digest ++ (number 8 x.0.moment ++ (number 4 (length x.0.writes.items)
@@ -58,7 +67,7 @@ fn read_body(alloc: Global, bytes: &[u8]) -> Result<(Body, &[u8]), Stop>
 {
     let (front, rest) = read_fixed(bytes, 32)?;
     let (moment, rest) = read_number(rest, 8, 0, 0xffff_ffff_ffff_ffff)?;
-    let (writes, rest) = read_writes(alloc, rest)?;
+    let (writes, rest) = read_writes(alloc, names, rest)?;
     let mut digest = [0; 32];
     digest.copy_from_slice(front);
     Ok((

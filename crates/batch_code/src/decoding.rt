@@ -5,17 +5,19 @@ ghost use Rattle.batch_code.specs.Storable.{IsHead, IsStorable};
 
 use crate::batch::{read_batch, read_head};
 use crate::fault::CodeFault;
+use crate::names::Names;
 use alto_names::Epoch;
 use alto_rows::Batch;
 use code_bytes::Stop;
 use std::alloc::Global;
 
-/// Reads a stored batch. The bytes are its spelling, and nothing follows.
-pub fn decode(alloc: Global, bytes: &[u8]) -> Result<Batch, CodeFault>
+/// Reads a stored batch. The bytes are its spelling, and nothing follows. Its keys share names with each other and with
+/// those that were read with the same `names`. Linear in the bytes, with one search for each name.
+pub fn decode(alloc: Global, names: &mut Names, bytes: &[u8]) -> Result<Batch, CodeFault>
     ensures ok { IfOk result (λ batch. IsStorable batch × (bytes.now ≡ batch_bytes batch)) }
     ensures err { IfErr result (IsFaultOf IsBatch bytes.now) }
 {
-    match read_batch(alloc, bytes) {
+    match read_batch(alloc, names, bytes) {
         Ok((batch, rest)) => {
             if rest.is_empty() {
                 return Ok(batch);

@@ -18,6 +18,7 @@ mod fault;
 mod key;
 mod kinds;
 mod laws;
+mod names;
 mod value;
 mod write;
 
@@ -29,4 +30,5 @@ pub use laws::{
     heads_with_one_spelling_are_one, row_of_i1, row_zero_of_e1, spellings_are_in_the_grammar,
     the_grammar_has_no_text_but_spellings,
 };
+pub use names::Names;
 pub use write::writes_of;

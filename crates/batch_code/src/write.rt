@@ -8,24 +8,35 @@ ghost use Rattle.batch_code.specs.Storable.{IsStored};
 
 use crate::key::read_key;
 use crate::kinds::KeyKind;
+use crate::names::Names;
 use crate::value::read_value;
 use alto_rows::Write;
 use code_bytes::{Stop, first_byte, read_number};
 use std::alloc::Global;
 
-/// Reads writes behind their number.
-pub(crate) fn read_writes(alloc: Global, bytes: &[u8]) -> Result<(Vec<Write>, &[u8]), Stop>
+/// Reads writes behind their number. Their keys share names.
+pub(crate) fn read_writes<'a>(
+    alloc: Global,
+    names: &mut Names,
+    bytes: &'a [u8],
+) -> Result<(Vec<Write>, &'a [u8]), Stop>
     ensures ok { IfOk result (λ x. All IsStored x.0.items × (length x.0.items ≤ 16384)
         × (bytes.now ≡ (number 4 (length x.0.items) ++ flat_map write_bytes x.0.items) ++ x.1.now)) }
     ensures stops { IfErr result (Stops WriteLists bytes.now) }
 {
     let (count, rest) = read_number(bytes, 4, 0, 16384)?;
-    let (writes, rest) = writes_of(alloc, count, rest)?;
+    let (writes, rest) = writes_of(alloc, names, count, rest)?;
     Ok((writes, rest))
 }
 
-/// Reads so many writes from the front of bytes, and gives what is left.
-pub fn writes_of(alloc: Global, count: u64, bytes: &[u8]) -> Result<(Vec<Write>, &[u8]), Stop>
+/// Reads so many writes from the front of bytes, and gives what is left. Their keys share names. One search for each
+/// name.
+pub fn writes_of<'a>(
+    alloc: Global,
+    names: &mut Names,
+    count: u64,
+    bytes: &'a [u8],
+) -> Result<(Vec<Write>, &'a [u8]), Stop>
     ensures ok { IfOk result (λ x. All IsStored x.0.items × (length x.0.items ≡ count)
         × (bytes.now ≡ flat_map write_bytes x.0.items ++ x.1.now)) }
     ensures stops { IfErr result (Stops (Times count Writes) bytes.now) }
@@ -34,7 +45,8 @@ pub fn writes_of(alloc: Global, count: u64, bytes: &[u8]) -> Result<(Vec<Write>,
     let mut rest = bytes;
     for _ in 0..count {
         let (write, after) = read_write(alloc, rest)?;
-        writes.push(write)?;
+        let shared = names.shared_write(write)?;
+        writes.push(shared)?;
         rest = after;
     }
     Ok((writes, rest))

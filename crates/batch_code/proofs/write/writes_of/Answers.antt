@@ -1,6 +1,7 @@
-use Rattle.std.proofs.Common.{◌≡◌, ◌++◌, ◌∷◌, []}
+use Rattle.std.proofs.Common.{◌≡◌, ◌++◌, ◌∷◌, [], ap, ◌∙◌}
 use Rattle.std.proofs.lemmas.List.Elements.{All-push}
 use Rattle.std.proofs.lemmas.Result.{err_from_is_err_and}
+use Rattle.alto_rows.specs.declared.write.Write.{Write}
 use Rattle.code_bytes.proofs.GrammarLemmas.{read_more, read_stops}
 use Rattle.batch_code.specs.Grammar.{Writes}
 use Rattle.batch_code.specs.Spelling.{write_bytes}
@@ -16,7 +17,8 @@ returns-in_err-write-clause-stops c =
 
 pub loop-preserved : goal.loop-preserved
 loop-preserved c =
-    let items : c.push.new.self.items ≡ c.loop.writes.items ++ (c.in_ok-write.write ∷ []) = c.in_ok-push.ensures.items in
+    let items : c.push.new.self.items ≡ c.loop.writes.items ++ (c.in_ok-write.write ∷ []) =
+    c.in_ok-push.ensures.items ∙ ap (λ (write : Write). c.loop.writes.items ++ (write ∷ [])) c.in_ok-shared.ensures in
     rw items (record {
       stored = All-push IsStored c.loop.writes.items c.in_ok-write.write c.loop.invariant.stored c.in_ok-write.ensures.ok.0;
       read = read_more write_bytes Writes c.args.count c.loop.counter c.args.bytes.now c.loop.writes.items c.loop.rest.now c.in_ok-write.write c.in_ok-write.after.now writes_grammar
