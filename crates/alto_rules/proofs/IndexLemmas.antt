@@ -3,8 +3,6 @@ use Rattle.std.proofs.Common.{◌≡◌, refl, ap, sym, ◌∙◌}
 use Rattle.std.proofs.lemmas.Cmp.{eq_by_cmp_equiv}
 use Rattle.std.proofs.lemmas.List.Folds.{list_any-append}
 use Rattle.std.specs.Prelude.{Bool, true, false, cond, ◌||◌, List, [], ◌∷◌, ◌++◌, Option, Some, None, is_some}
-use Rattle.std.specs.BTreeMap as map
-use Rattle.std.specs.BTreeMap.{BTreeMap}
 use Rattle.std.specs.BTreeSet as set
 use Rattle.std.specs.BTreeSet.{BTreeSet, contains}
 use Rattle.std.specs.Option.{unwrap_or}
@@ -22,12 +20,14 @@ use Rattle.alto_rows.proofs.RowsLemmas.{same_key_back}
 use Rattle.alto_rows.proofs.TouchesLemmas.{same_resource_ties}
 use Rattle.alto_rows.proofs.WriteLemmas.{value_of-after-push}
 use Rattle.alto_rules.specs.Draft.{writing}
+use Rattle.alto_rules.specs.declared.written.Written.{Written}
 use Rattle.alto_rules.specs.Index.{IsIndexed, is_part}
+use Rattle.alto_rules.specs.Written.{Gains, told}
 
 -- no writes
-pub indexed_opened : (rows : Rows) (w : BTreeMap Key Bool) (t : BTreeSet Resource) → w.entries ≡ [] → t.keys ≡ [] → IsIndexed rows [] w t
-indexed_opened rows w t e f = record {
-  rows_at = λ at. rw e refl;
+pub indexed_opened : (rows : Rows) (w : Written) (t : BTreeSet Resource) → w.put ≡ [] → w.other.entries ≡ [] → t.keys ≡ [] → IsIndexed rows [] w t
+indexed_opened rows w t p e f = record {
+  rows_at = λ at. rw (p, e) refl;
   resources = λ of. rw f refl;
 }
 
@@ -50,27 +50,17 @@ put_or_kept true v old g o h = refl
 put_or_kept false v old g o h = h
 
 -- the index stays true under a write, where the map and the set have gained it
-pub indexed_more : (rows : Rows) (writes : List Write) (at : Key) (v : Option Value) (w w' : BTreeMap Key Bool) (t t' : BTreeSet Resource)
-    → AreSorted rows → IsIndexed rows writes w t → map.Updates key_cmp w w' at (Some (is_some v))
+pub indexed_more : (rows : Rows) (writes : List Write) (at : Key) (v : Option Value) (w w' : Written) (t t' : BTreeSet Resource)
+    → AreSorted rows → IsIndexed rows writes w t → Gains w w' at (is_some v)
     → ((of : Resource) → contains resource_cmp t' of ≡ (contains resource_cmp t of || is_resource (part_of at) of))
     → IsIndexed rows (writes ++ writing at v ∷ []) w' t'
 indexed_more rows writes at v w w' t t' s old put more = record {
   rows_at = λ q.
-      rw (value_of-after-push rows writes (writing at v) q s, put.0 q, same_key_back q at)
-      (put_or_kept (is_eq (key_cmp at q)) v (value_of (after rows writes) q) (map.get key_cmp w q) (has_row rows q) (old.rows_at q));
+      rw (value_of-after-push rows writes (writing at v) q s, put q, same_key_back q at)
+      (put_or_kept (is_eq (key_cmp at q)) v (value_of (after rows writes) q) (told w q) (has_row rows q) (old.rows_at q));
   resources = λ of.
       more of
       ∙ (ap (λ b. b || is_resource (part_of at) of) (old.resources of)
       ∙ (ap (λ b. is_part writes of || b) (sym (or_false (is_resource (part_of at) of)))
       ∙ sym (list_any-append (λ (write : Write). is_resource (part_of write.key) of) writes (writing at v ∷ []))));
 }
-
--- a written key has a row after the writes where the map says so
-pub has_written : (rows : Rows) (writes : List Write) (w : BTreeMap Key Bool) (t : BTreeSet Resource) → IsIndexed rows writes w t
-    → (at : Key) (b : Bool) → Some b ≡ map.get key_cmp w at → b ≡ has_row (after rows writes) at
-has_written rows writes w t indexed at b h = rw (indexed.rows_at at, ← h) refl
-
--- any other key has a row where it had one before the writes
-pub has_unwritten : (rows : Rows) (writes : List Write) (w : BTreeMap Key Bool) (t : BTreeSet Resource) → IsIndexed rows writes w t
-    → (at : Key) → None ≡ map.get key_cmp w at → has_row rows at ≡ has_row (after rows writes) at
-has_unwritten rows writes w t indexed at h = rw (indexed.rows_at at, ← h) refl

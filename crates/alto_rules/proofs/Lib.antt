@@ -1,4 +1,5 @@
 pub mod Orders
+pub mod WrittenLemmas
 pub mod IndexLemmas
 pub mod SizeLemmas
 pub mod OwnerLemmas

@@ -1,12 +1,11 @@
 -- What a draft keeps beside its writes, so that no question to it goes over them.
-use Rattle.std.specs.Prelude.{◌≡◌, Bool, ◌||◌, List, Some}
-use Rattle.std.specs.BTreeMap.{Updates, get}
+use Rattle.std.specs.Prelude.{◌≡◌, Bool, ◌||◌, List}
 use Rattle.std.specs.BTreeSet.{contains}
 use Rattle.std.specs.Option.{unwrap_or}
 use Rattle.alto_rows.specs.declared.key.Key.{Key}
 use Rattle.alto_rows.specs.declared.resource.Resource.{Resource}
 use Rattle.alto_rows.specs.declared.write.Write.{Write}
-use Rattle.alto_rows.specs.Order.{key_cmp, resource_cmp}
+use Rattle.alto_rows.specs.Order.{resource_cmp}
 use Rattle.alto_rows.specs.Rows.{Rows, AreSorted, has_row, after}
 use Rattle.alto_rows.specs.Touches.{part_of, is_resource}
 use Rattle.alto_rules.specs.declared.kept.Kept.{Kept}
@@ -14,6 +13,7 @@ use Rattle.alto_rules.specs.Draft.{HaveOneOwner}
 use Rattle.alto_rules.specs.Index.{IsIndexed}
 use Rattle.alto_rules.specs.Owners.{AreOwners, HasChanged, owner_left}
 use Rattle.alto_rules.specs.Sizes.{AreSizes, HasRecounted, counted_of, recounted}
+use Rattle.alto_rules.specs.Written.{Gains, told}
 
 -- the rows are sorted and their prefixes in one PID each, and what is kept tells of the rows after the writes
 pub record IsDraft (rows : Rows) (writes : List Write) (kept : Kept) : Type 0 where
@@ -25,11 +25,11 @@ pub record IsDraft (rows : Rows) (writes : List Write) (kept : Kept) : Type 0 wh
 
 -- whether a key has a row, where this is kept of the writes
 abbrev pub had_row : Rows → Kept → Key → Bool
-had_row rows kept at = unwrap_or (get key_cmp kept.index.written at) (has_row rows at)
+had_row rows kept at = unwrap_or (told kept.index.written at) (has_row rows at)
 
 -- what is kept after a write of a key, which then has a row or not
 pub record HasKept (rows : Rows) (at : Key) (has : Bool) (before later : Kept) : Type 0 where
-  pub written : Updates key_cmp before.index.written later.index.written at (Some has)
+  pub written : Gains before.index.written later.index.written at has
   pub parts : (of : Resource) → contains resource_cmp later.index.parts of
       ≡ (contains resource_cmp before.index.parts of || is_resource (part_of at) of)
   pub total : later.sizes.total ≡ recounted (had_row rows before at) has before.sizes.total

@@ -5,3 +5,4 @@ pub mod Sizes
 pub mod Owners
 pub mod Kept
 pub mod Withdrawal
+pub mod Written

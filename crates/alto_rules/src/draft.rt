@@ -54,7 +54,7 @@ impl<'a, R: RowStore> Draft<'a, R> {
         }
     }
 
-    /// Whether the key has a row after the writes. Two searches.
+    /// Whether the key has a row after the writes. Three searches.
     pub fn has(&self, key: &Key) -> bool
         ensures { result ≡ has_row (drafted_rows self.now) key.now }
     {

@@ -1,20 +1,21 @@
 ghost use Rattle.std.specs.Prelude.{◌≡◌, ◌||◌, [], IfOk, Some, true, option_copied};
-ghost use Rattle.std.specs.BTreeMap.{BTreeMap, Updates as MapUpdates, get};
 ghost use Rattle.std.specs.BTreeSet.{BTreeSet, Updates as SetUpdates, contains};
 ghost use Rattle.std.specs.Option.{option_copied};
-ghost use Rattle.alto_rows.specs.Order.{key_cmp, resource_cmp};
+ghost use Rattle.alto_rows.specs.Order.{resource_cmp};
 ghost use Rattle.alto_rows.specs.declared.resource.Resource as resource;
 ghost use Rattle.alto_rows.specs.Touches.{is_resource, part_of};
+ghost use Rattle.alto_rules.specs.Written.{Gains, told};
 
+use crate::written::Written;
 use alto_rows::{Key, Resource};
 use std::alloc::{AllocError, Global};
-use std::collections::{BTreeMap, BTreeSet};
+use std::collections::BTreeSet;
 
 /// What a draft keeps of its writes, so that no question goes over them.
 #[derive(Drop)]
 pub struct Index {
-    /// Whether a written key has a row after the writes.
-    pub written: BTreeMap<Key, bool>,
+    /// Which written keys have rows after the writes.
+    pub written: Written,
     /// The resources that the writes are part of.
     pub parts: BTreeSet<Resource>,
 }
@@ -22,52 +23,35 @@ pub struct Index {
 impl Index {
     /// The index of no writes.
     pub fn new(alloc: Global) -> Index
-        ensures written { result.written.entries ≡ [] }
+        ensures put { result.written.put ≡ [] }
+        ensures other { result.written.other.entries ≡ [] }
         ensures parts { result.parts.keys ≡ [] }
     {
         Index {
-            written: BTreeMap::new(alloc),
+            written: Written::new(alloc),
             parts: BTreeSet::new(alloc),
         }
     }
 
-    /// Whether a key has a row after the writes, `None` where no write is of the key. One search.
+    /// Whether a key has a row after the writes, `None` where no write is of the key. Two searches.
     pub fn has(&self, key: &Key) -> Option<bool>
-        ensures { result ≡ get key_cmp self.now.written key.now }
+        ensures { result ≡ told self.now.written key.now }
     {
-        match self.written.get(key) {
-            Some(has) => Some(*has),
-            None => None,
-        }
+        self.written.has(key)
     }
 
     /// The index with a write more, whether its key has a row after it, and what `has` told before.
     pub fn with(self, key: &Key, has: bool) -> Result<(Index, Option<bool>), AllocError>
-        ensures written { IfOk result (λ made.
-            MapUpdates key_cmp self.written made.0.written key.now (Some has)) }
+        ensures written { IfOk result (λ made. Gains self.written made.0.written key.now has) }
         ensures parts { IfOk result (λ made. (of : resource.Resource) → contains resource_cmp made.0.parts of
             ≡ (contains resource_cmp self.parts of || is_resource (part_of key.now) of)) }
-        ensures old { IfOk result (λ made. made.1 ≡ get key_cmp self.written key.now) }
+        ensures old { IfOk result (λ made. made.1 ≡ told self.written key.now) }
     {
         let Index { written, parts } = self;
-        let (written, old) = with_key(written, key, has)?;
+        let (written, old) = written.with(key, has)?;
         let parts = with_part(parts, key)?;
         Ok((Index { written, parts }, old))
     }
-}
-
-/// The written keys with one more, and what was there of it.
-fn with_key(
-    written: BTreeMap<Key, bool>,
-    key: &Key,
-    has: bool,
-) -> Result<(BTreeMap<Key, bool>, Option<bool>), AllocError>
-    ensures all { IfOk result (λ made. MapUpdates key_cmp written made.0 key.now (Some has)) }
-    ensures old { IfOk result (λ made. made.1 ≡ get key_cmp written key.now) }
-{
-    let mut all = written;
-    let old = all.insert(copied(key)?, has)?;
-    Ok((all, old))
 }
 
 /// The resources with the one that a key is part of.
@@ -107,11 +91,4 @@ fn part_of(key: &Key) -> Result<Option<Resource>, AllocError>
         Key::Prop(net, _, _) => Some(Resource::Prop(net.clone()?)),
         _ => None,
     })
-}
-
-/// A copy of a key.
-pub fn copied(key: &Key) -> Result<Key, AllocError>
-    ensures { IfOk result (λ copy. copy ≡ key.now) }
-{
-    key.clone()
 }

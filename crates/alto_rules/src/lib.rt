@@ -15,6 +15,7 @@ mod shared;
 mod sizes;
 mod versions;
 mod withdrawal;
+mod written;
 
 pub use alto_edits::{CompileFault, Edit, Past, PropValue, Rule};
 pub use compiler::compile;

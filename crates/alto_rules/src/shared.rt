@@ -1,20 +1,21 @@
-ghost use Rattle.std.specs.Prelude.{◌≡◌, IfOk, IfSome};
+ghost use Rattle.std.specs.Prelude.{◌≡◌, IfOk, IfSome, IsTrue};
 ghost use Rattle.alto_rows.specs.declared.key.Key.TheVariants as keys;
 ghost use Rattle.alto_rules.specs.Parts.{edit_key};
 
 use crate::draft::Draft;
-use crate::keys::{metric_key, net_key, pid_key};
+use crate::keys::{cost_key, metric_key, net_key, pid_key};
 use crate::parts::edit_key;
+use crate::written::stored_in;
 use alto_addr::Prefix;
 use alto_edits::Edit;
-use alto_names::{Metric, NetName, PidName};
+use alto_names::{Kind, Label, Metric, NetName, PidName};
 use alto_rows::{Key, PackedPrefix, RowStore};
 use std::alloc::AllocError;
 
 impl<'a, R: RowStore> Draft<'a, R> {
     /// The key that an edit is about. What it names of a network that rows declare, before the batch or written in it,
     /// it names by their copy of the name, so that many rows share one: contracts see names by value, and don't say it.
-    /// A search for each such name.
+    /// A search for each such name, but for the first names of a cost that are those of the cost written before it.
     pub fn shared_key(&self, edit: &Edit) -> Result<Key, AllocError>
         ensures { IfOk result (λ key. key ≡ edit_key edit.now) }
     {
@@ -58,7 +59,8 @@ impl<'a, R: RowStore> Draft<'a, R> {
         Ok(Key::Prefix(self.net_name(net)?, pid, PackedPrefix::new(prefix)))
     }
 
-    /// The key of a cost, with its names so.
+    /// The key of a cost, with its names so. All but its destination are those of the last write, where this is of a
+    /// cost with the same names.
     fn shared_cost(
         &self,
         net: &NetName,
@@ -68,9 +70,54 @@ impl<'a, R: RowStore> Draft<'a, R> {
     ) -> Result<Key, AllocError>
         ensures { IfOk result (λ key. key ≡ keys.Cost net.now metric.now source.now destination.now) }
     {
+        let destination = self.pid_name(net, destination)?;
+        match self.last_cost(net, metric, source, &destination)? {
+            Some(key) => Ok(key),
+            None => self.named_cost(net, metric, source, destination),
+        }
+    }
+
+    /// The same with the names of the last write, where it is of a cost with the same first names. No search.
+    fn last_cost(
+        &self,
+        net: &NetName,
+        metric: &Metric,
+        source: &PidName,
+        destination: &PidName,
+    ) -> Result<Option<Key>, AllocError>
+        ensures { IfOk result (λ found. IfSome found (λ key.
+            key ≡ keys.Cost net.now metric.now source.now destination.now)) }
+    {
+        let Some(last) = self.writes.last() else {
+            return Ok(None);
+        };
+        match &last.key {
+            Key::Cost(last_net, last_metric, last_source, _) => {
+                if are_same(last_net, net)
+                    && are_same(last_metric, metric)
+                    && are_same(last_source, source)
+                {
+                    Ok(Some(cost_key(last_net, last_metric, last_source, destination)?))
+                } else {
+                    Ok(None)
+                }
+            }
+            _ => Ok(None),
+        }
+    }
+
+    /// The same with names that are searched for.
+    fn named_cost(
+        &self,
+        net: &NetName,
+        metric: &Metric,
+        source: &PidName,
+        destination: PidName,
+    ) -> Result<Key, AllocError>
+        ensures { IfOk result (λ key. key ≡ keys.Cost net.now metric.now source.now destination) }
+    {
         let metric = self.metric_name(net, metric)?;
         let source = self.pid_name(net, source)?;
-        let destination = self.pid_name(net, destination)?;
         Ok(Key::Cost(self.net_name(net)?, metric, source, destination))
     }
 
@@ -129,19 +176,16 @@ impl<'a, R: RowStore> Draft<'a, R> {
     fn found(&self, key: &Key) -> Option<&Key>
         ensures { IfSome result (λ at. at.now ≡ key.now) }
     {
-        match self.kept.index.written.get_key_value(key) {
-            Some((at, _)) => if_same(at, key),
-            None => match self.rows.next_from(key) {
-                Some((at, _)) => if_same(at, key),
-                None => None,
-            },
+        match self.kept.index.written.stored(key) {
+            Some(at) => Some(at),
+            None => stored_in(self.rows, key),
         }
     }
 }
 
-/// The key at hand, where it is the one that is asked for.
-fn if_same<'a>(at: &'a Key, key: &Key) -> Option<&'a Key>
-    ensures { IfSome result (λ same. same.now ≡ key.now) }
+/// Whether two names are one.
+fn are_same<K: Kind>(name: &Label<K>, other: &Label<K>) -> bool
+    ensures { IsTrue result → name.now ≡ other.now }
 {
-    if at.cmp(key).is_eq() { Some(at) } else { None }
+    name == other
 }

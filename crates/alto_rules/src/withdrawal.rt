@@ -14,8 +14,8 @@ ghost use Rattle.alto_rules.specs.Withdrawal.{HasPicked, has_key, is_of, is_pid,
 ghost use Rattle.alto_rules.specs.Withdrawal.{named_in, names_key, spans_of, withdraws};
 
 use crate::draft::Draft;
-use crate::index::copied;
 use crate::parts::edit_key;
+use crate::written::copied;
 use alto_edits::Edit;
 use alto_names::{Metric, NetName, PidName};
 use alto_rows::{Entity, Key, RowStore, Span, Write, rows_in};

@@ -4,7 +4,7 @@ use Rattle.std.specs.Prelude.{◌≡◌, true}
 use Rattle.std.specs.Ordering.{is_eq}
 use Rattle.alto_rows.proofs.OrderLemmas.{one_key}
 use Rattle.alto_rules.proofs.Orders.{by_key_cmp}
-use Rattle.alto_rules.proofs.shared.if_same.Goals as goal
+use Rattle.alto_rules.proofs.written.if_same.Goals as goal
 
 pub returns-then-is_eq : goal.returns-then-is_eq
 returns-then-is_eq c =

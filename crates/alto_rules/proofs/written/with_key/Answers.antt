@@ -5,7 +5,7 @@ use Rattle.std.specs.Prelude.{◌≡◌, Some}
 use Rattle.alto_rows.specs.declared.key.Key.{Key}
 use Rattle.alto_rows.specs.Order.{key_cmp}
 use Rattle.alto_rules.proofs.Orders.{by_key_cmp}
-use Rattle.alto_rules.proofs.index.with_key.Goals as goal
+use Rattle.alto_rules.proofs.written.with_key.Goals as goal
 
 pub returns-clause-all : goal.returns-clause-all
 returns-clause-all c =
