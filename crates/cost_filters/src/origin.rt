@@ -2,8 +2,8 @@
 ghost use Rattle.std.specs.Prelude.{◌≡◌, ◌≤◌, IfOk, drop, length, map};
 ghost use Rattle.std.specs.List.Sorted.{IsSearchInRange, IsStrictlySortedBy};
 ghost use Rattle.std.specs.Cmp.Lexicographic.{slice_cmp};
-ghost use Rattle.std.specs.Ordering.{is_eq, nat_cmp};
-ghost use Rattle.alto_rows.specs.Order.{key_cmp};
+ghost use Rattle.std.specs.Ordering.{is_eq, nat_cmp, ordering_then};
+ghost use Rattle.alto_rows.specs.Order.{key_cmp, name_cmp};
 ghost use Rattle.alto_rows.specs.Place.{place_of};
 ghost use Rattle.alto_rows.specs.Rows.{AreSorted, IsRunOf, rows_from};
 ghost use Rattle.cost_docs.specs.CostMap.{number_at};
@@ -132,11 +132,10 @@ impl<'a> Origin<'a> {
         ensures { result ≡ key_cmp key.now (key_to self.now dst.now) }
     {
         match key {
-            Key::Cost(net, metric, src, to) => net.cmp(self.net).then(
-                metric
-                    .cmp(self.metric)
-                    .then(src.cmp(self.src).then(to.cmp(dst))),
-            ),
+            Key::Cost(net, metric, src, to) => match self.cmp_map(net, metric) {
+                Ordering::Equal => self.cmp_pair(src, to, dst),
+                apart => apart,
+            },
             Key::Epoch
             | Key::Window
             | Key::Net(_)
@@ -147,11 +146,35 @@ impl<'a> Origin<'a> {
         }
     }
 
-    /// Whether a key is that of a cost.
+    /// Where a network and a metric stand against these.
+    fn cmp_map(&self, net: &NetName, metric: &Metric) -> Ordering
+        ensures { result ≡ ordering_then (name_cmp net.now self.now.net) (name_cmp metric.now self.now.metric) }
+    {
+        match net.cmp(self.net) {
+            Ordering::Equal => metric.cmp(self.metric),
+            apart => apart,
+        }
+    }
+
+    /// Where two PIDs stand against the source and a destination.
+    fn cmp_pair(&self, src: &PidName, to: &PidName, dst: &PidName) -> Ordering
+        ensures { result ≡ ordering_then (name_cmp src.now self.now.src) (name_cmp to.now dst.now) }
+    {
+        match src.cmp(self.src) {
+            Ordering::Equal => to.cmp(dst),
+            apart => apart,
+        }
+    }
+
+    /// Whether a key is that of a cost. Looks first at the destination, which tells most keys apart.
+    #[tactic(auto, unfolding(alto_rows::specs::Order::key_cmp))]
     fn is_at(&self, key: &Key, dst: &PidName) -> bool
         ensures { result ≡ is_eq (key_cmp key.now (key_to self.now dst.now)) }
     {
-        self.cmp(key, dst).is_eq()
+        match key {
+            Key::Cost(_, _, _, to) => to == dst && self.cmp(key, dst).is_eq(),
+            _ => false,
+        }
     }
 
     /// The key of a cost.
