@@ -1,37 +1,34 @@
 -- The edges of a resource, by the updates graph of a version.
-use Rattle.std.proofs.Common.{◌≡◌, ℕ, ◌≤◌, ◌==◌, true, false, Bool, List, Option, Some, None, if◌then◌else◌, refl, ap, sym, subst, ◌∙◌, arith}
+use Rattle.std.proofs.Common.{◌≡◌, ℕ, ◌≤◌, ◌==◌, true, false, Bool, List, Option, Some, None, if◌then◌else◌, refl, ap, ap₂, sym, subst, ◌∙◌, arith}
 use Rattle.std.proofs.lemmas.Bool.Decides.{nat_tests}
-use Rattle.std.specs.List.{flat_map}
-use Rattle.std.specs.List.Sorted.{IsStrictlySortedBy}
+use Rattle.serde_json.specs.Written.{compact_text}
 use Rattle.alto_http.specs.declared.request.Verb.{Verb}
 use Rattle.alto_http.specs.declared.request.Verb.TheVariants as verb
 use Rattle.alto_rows.specs.declared.key.Key.{Key}
 use Rattle.alto_rows.specs.declared.resource.Resource.{Resource}
 use Rattle.alto_rows.specs.Good.{AreGood}
 use Rattle.alto_rows.specs.Ids.{resource_named}
-use Rattle.alto_rows.specs.Order.{key_cmp}
 use Rattle.alto_rows.specs.Rows.{Rows}
 use Rattle.alto_rows.specs.Versions.{is_declared}
 use Rattle.alto_book.specs.Book.{Book, rows_of}
 use Rattle.alto_book.specs.Legal.{IsLegal}
 use Rattle.alto_book.specs.NumberLaws.{TellsNumbers}
 use Rattle.alto_book.specs.Numbers.{keys_between, rows_at, status_at, updates_graph}
-use Rattle.alto_book.specs.Walks.{document, document_at, patch}
+use Rattle.alto_book.specs.Walks.{content_data, document, document_at, patch}
 use Rattle.alto_book.proofs.TellLemmas.{graph_tells}
 use Rattle.alto_versions.specs.Front.{Version, StandsFor, graph_in}
 use Rattle.alto_versions.proofs.FoundLemmas.{graph_found}
 use Rattle.edge_patch.specs.Documents as documents
 use Rattle.edge_patch.specs.declared.form.PatchForm.{PatchForm}
+use Rattle.edge_patch.specs.declared.form.PatchForm.TheVariants as form
 use Rattle.tips_graph.specs.declared.status.EdgeStatus.{EdgeStatus}
 use Rattle.tips_graph.specs.declared.status.EdgeStatus.TheVariants.{Absent, Gone, Awaited, Ahead, Here}
-use Rattle.tips_graph.specs.Graph.{GraphData, Push, is_step_here, pushes_between, span_of, status_of}
-use Rattle.tips_graph.specs.Keys.{key_set}
-use Rattle.tips_graph.proofs.KeySetLemmas.{key_set_sorted}
+use Rattle.tips_graph.specs.Graph.{GraphData, span_of, status_of}
 use Rattle.tips_graph.specs.Graph.{rows_at as graph_rows}
 use Rattle.alto_answers.specs.declared.outcome.Answer.{Answer}
 use Rattle.alto_answers.specs.Answers.{BringsEdits}
-use Rattle.alto_answers.specs.Edges.{content_reply, edge_by, edge_number, edge_reply, edges_answer, named_edge, numbered_edge}
-use Rattle.alto_replies.specs.Replies.{document_reply}
+use Rattle.alto_answers.specs.Edges.{content_reply, content_type, edge_by, edge_number, edge_reply, edges_answer, named_edge, numbered_edge, patch_type}
+use Rattle.alto_replies.specs.Replies.{document_reply, ok_reply}
 use Rattle.alto_answers.specs.Types.{media_type_of}
 
 -- what a version has of a resource is the book's graph, where the resource is declared
@@ -186,13 +183,17 @@ edges_bring_none verb.Get book form resource i j = named_brings book (resource_n
 edges_bring_none verb.Post book form resource i j = tt
 edges_bring_none verb.Other book form resource i j = tt
 
--- the keys of an edge rise
-pub span_rises : (graph : GraphData) (i j : ℕ) (keys : List Key) → Some keys ≡ span_of graph i j → IsStrictlySortedBy key_cmp keys
-span_rises graph i j keys found = by (is_step_here (status_of graph i j) i) found
-  where
-    between : List Key
-    between = flat_map (λ (push : Push). push.keys) (pushes_between graph i j)
+-- ---- what is kept of an edge as text
 
-    by : (b : Bool) → Some keys ≡ (if b then Some (key_set between) else None) → IsStrictlySortedBy key_cmp keys
-    by true is = let same : keys ≡ key_set between = cc in subst (IsStrictlySortedBy key_cmp) (sym same) (key_set_sorted between)
-    by false is = cc
+-- a patch has the media type of its form
+patch_types : (form : PatchForm) (of : Resource) (before later : Rows) (keys : List Key)
+    → content_type of (patch form of before later keys) ≡ patch_type form
+patch_types form.Merge of before later keys = refl
+patch_types form.Operations of before later keys = refl
+
+-- the reply with the text of a patch
+pub patch_replied : (form : PatchForm) (of : Resource) (before later : Rows) (keys : List Key) (text : List ℕ)
+    → text ≡ compact_text (content_data (patch form of before later keys))
+    → ok_reply (patch_type form) text ≡ content_reply of (patch form of before later keys)
+patch_replied form of before later keys text is =
+    ap₂ ok_reply (sym (patch_types form of before later keys)) is

@@ -12,6 +12,7 @@ use Rattle.alto_http.specs.declared.request.Verb.{Verb}
 use Rattle.alto_http.specs.declared.request.Verb.TheVariants as verb
 use Rattle.alto_http.specs.Fields.{is_decimal}
 use Rattle.edge_patch.specs.declared.form.PatchForm.{PatchForm}
+use Rattle.edge_patch.specs.declared.form.PatchForm.TheVariants as form
 use Rattle.tips_graph.specs.declared.status.EdgeStatus.{EdgeStatus}
 use Rattle.tips_graph.specs.declared.status.EdgeStatus.TheVariants.{Absent, Gone, Awaited, Ahead, Here}
 use Rattle.alto_answers.specs.declared.outcome.Answer.{Answer}
@@ -42,6 +43,11 @@ abbrev pub content_type : Resource → Content → List ℕ
 content_type of (document whole) = media_type_of of
 content_type of (merge_patch change) = merge_patch_type
 content_type of (operations changes) = json_patch_type
+
+-- the media type of a patch in a form
+abbrev pub patch_type : PatchForm → List ℕ
+patch_type form.Merge = merge_patch_type
+patch_type form.Operations = json_patch_type
 
 -- the reply that holds it
 abbrev pub content_reply : Resource → Content → ReplyData

@@ -1,5 +1,6 @@
 //! Edges of updates graphs, asked for by their numbers (RFC 9569, section 7).
 ghost use Rattle.std.specs.Prelude.{◌≡◌, ℕ, true, IfOk, Some};
+ghost use Rattle.serde_json.specs.Written.{compact_text};
 ghost use Rattle.std.specs.List.Sorted.{IsStrictlySortedBy};
 ghost use Rattle.std.specs.Str.Parse.{digits_value};
 ghost use Rattle.alto_rows.specs.Good.{AreGood};
@@ -10,15 +11,16 @@ ghost use Rattle.alto_book.specs.Book.{Book, rows_of};
 ghost use Rattle.alto_book.specs.Legal.{IsLegal};
 ghost use Rattle.alto_book.specs.NumberLaws.{TellsNumbers};
 ghost use Rattle.alto_book.specs.Numbers.{status_at};
-ghost use Rattle.alto_book.specs.Walks.{patch};
+ghost use Rattle.alto_book.specs.Walks.{content_data, patch};
 ghost use Rattle.alto_versions.specs.Front.{StandsFor};
-ghost use Rattle.tips_graph.specs.Graph.{last_of, status_of};
+ghost use Rattle.edge_patch.specs.Documents as documents;
+ghost use Rattle.tips_graph.specs.Graph.{last_of, rows_at, status_of};
 ghost use Rattle.tips_graph.specs.declared.status.EdgeStatus.TheVariants.{Here};
 ghost use Rattle.alto_answers.specs.Accept.{patch_form};
 ghost use Rattle.alto_answers.specs.Answers.{HasBytes};
 ghost use Rattle.alto_replies.specs.Reply.{IsReply};
-ghost use Rattle.alto_answers.specs.Edges.{content_reply, edge_by, edge_number, edge_reply, edges_answer};
-ghost use Rattle.alto_answers.specs.Edges.{has_leading_zero, is_edge_number, named_edge, numbered_edge};
+ghost use Rattle.alto_answers.specs.Edges.{edge_by, edge_number, edge_reply, edges_answer, has_leading_zero};
+ghost use Rattle.alto_answers.specs.Edges.{is_edge_number, named_edge, numbered_edge, patch_type};
 ghost use Rattle.alto_answers.specs.Graphs.{IsVersion};
 ghost use Rattle.alto_answers.specs.Target.{segment};
 
@@ -30,7 +32,7 @@ use crate::types::{JSON_PATCH, MERGE_PATCH, media_type};
 use alto_http::{Request, Verb, is_decimal};
 use alto_replies::{Reply, gone, not_found, ok_reply, too_early, wrong_method};
 use alto_rows::{Key, Resource, RowStore, find_resource};
-use alto_versions::Front;
+use alto_versions::{Followed, Front};
 use edge_patch::{PatchForm, document_text};
 use edge_text::{merge_text, operations_text};
 use std::alloc::{AllocError, Global};
@@ -80,14 +82,14 @@ fn named_edge<R: RowStore>(
     let Some(of) = find_resource(alloc, &*front.rows, resource)? else {
         return Ok(Answer::Reply(not_found(alloc, "resource")?));
     };
-    let Some(graph) = front.graph(&of) else {
+    let Some(followed) = front.followed(&of) else {
         unreachable!();
     };
     let (i, j) = (edge_number(i), edge_number(j));
-    if is_newest(graph, i, j) {
+    if is_newest(followed.graph(), i, j) {
         return Ok(Answer::Reply(newest_reply(alloc, front, &of)?));
     }
-    numbered_edge(alloc, graph, of, form, i, j)
+    numbered_edge(alloc, followed, of, form, i, j)
 }
 
 /// Whether an edge is the one from 0 to the last number: it holds the document of the rows now, whose text the version
@@ -105,15 +107,15 @@ fn is_newest<R: RowStore>(graph: &Graph<R>, i: Option<u64>, j: Option<u64>) -> b
 /// The edge between two numbers, if they are numbers.
 fn numbered_edge<R: RowStore>(
     alloc: Global,
-    graph: &Graph<R>,
+    followed: &Followed<R>,
     resource: Resource,
     form: PatchForm,
     i: Option<u64>,
     j: Option<u64>,
 ) -> Result<Answer, AllocError>
-    requires { (book : Book) × TellsNumbers graph.now book resource }
+    requires { (book : Book) × TellsNumbers followed.now book resource }
     ensures has_bytes { IfOk result HasBytes }
-    ensures answer { IfOk result (λ answer. (book : Book) → TellsNumbers graph.now book resource
+    ensures answer { IfOk result (λ answer. (book : Book) → TellsNumbers followed.now book resource
         → answer ≡ numbered_edge book resource form i j) }
 {
     let Some(i) = i else {
@@ -122,85 +124,113 @@ fn numbered_edge<R: RowStore>(
     let Some(j) = j else {
         return Ok(Answer::Reply(not_found(alloc, "edge")?));
     };
-    edge_by(alloc, graph, resource, form, i, j)
+    edge_by(alloc, followed, resource, form, i, j)
 }
 
 /// What an edge is answered by its status.
 fn edge_by<R: RowStore>(
     alloc: Global,
-    graph: &Graph<R>,
+    followed: &Followed<R>,
     resource: Resource,
     form: PatchForm,
     i: u64,
     j: u64,
 ) -> Result<Answer, AllocError>
-    requires { (book : Book) × TellsNumbers graph.now book resource }
+    requires { (book : Book) × TellsNumbers followed.now book resource }
     ensures has_bytes { IfOk result HasBytes }
-    ensures answer { IfOk result (λ answer. (book : Book) → TellsNumbers graph.now book resource
+    ensures answer { IfOk result (λ answer. (book : Book) → TellsNumbers followed.now book resource
         → answer ≡ edge_by (status_at book resource i j) book resource form i j) }
 {
+    let graph = followed.graph();
     match graph.status(i, j) {
         EdgeStatus::Absent => Ok(Answer::Reply(not_found(alloc, "edge")?)),
         EdgeStatus::Gone => Ok(Answer::Reply(gone(alloc, graph.first())?)),
         EdgeStatus::Awaited => Ok(Answer::Hold { resource, i, j }),
         EdgeStatus::Ahead => Ok(Answer::Reply(too_early(alloc, graph.last())?)),
-        EdgeStatus::Here => Ok(Answer::Reply(edge_reply(alloc, graph, &resource, form, i, j)?)),
+        EdgeStatus::Here => Ok(Answer::Reply(edge_reply(alloc, followed, &resource, form, i, j)?)),
     }
 }
 
 /// The document or the patch of an edge that can be had.
 fn edge_reply<R: RowStore>(
     alloc: Global,
-    graph: &Graph<R>,
+    followed: &Followed<R>,
     resource: &Resource,
     form: PatchForm,
     i: u64,
     j: u64,
 ) -> Result<Reply, AllocError>
-    requires { (book : Book) × TellsNumbers graph.now book resource.now × (status_at book resource.now i j ≡ Here) }
+    requires { (book : Book) × TellsNumbers followed.now book resource.now × (status_at book resource.now i j ≡ Here) }
     ensures has_bytes { IfOk result IsReply }
-    ensures reply { IfOk result (λ reply. (book : Book) → TellsNumbers graph.now book resource.now
+    ensures reply { IfOk result (λ reply. (book : Book) → TellsNumbers followed.now book resource.now
         → reply ≡ edge_reply book resource.now form i j) }
 {
+    let graph = followed.graph();
     let Some(rows) = graph.rows_at(j) else {
         unreachable!();
     };
     let Some(keys) = graph.span(i, j) else {
-        let document = document_text(alloc, resource, &**rows)?;
+        let document = document_at(alloc, followed, resource, &**rows, j)?;
         return ok_reply(alloc, media_type(resource), document);
     };
     let Some(before) = graph.rows_at(i) else {
         unreachable!();
     };
-    patch_reply(alloc, resource, form, &**before, &**rows, keys)
+    let patch = match followed.patch(resource, form, i, j) {
+        Some(text) => text.to_vec(alloc)?,
+        None => patch_text(alloc, resource, form, &**before, &**rows, keys)?,
+    };
+    ok_reply(alloc, patch_type(form), patch)
 }
 
-/// The patch that leads from rows to others which differ at these keys, which rise.
-fn patch_reply<R: RowStore>(
+/// The text of the document at a number, at which these are the rows. It is written where no text of it is kept.
+fn document_at<R: RowStore>(
+    alloc: Global,
+    followed: &Followed<R>,
+    resource: &Resource,
+    rows: &R,
+    number: u64,
+) -> Result<Vec<u8>, AllocError>
+    requires good { AreGood (R.rows rows.now) }
+    requires declared { is_declared (R.rows rows.now) resource.now ≡ true }
+    requires number { Some (R.rows rows.now) ≡ rows_at followed.now number }
+    ensures { IfOk result (λ bytes. bytes.items ≡ compact_text (documents.document resource.now (R.rows rows.now))) }
+{
+    match followed.document(resource, number) {
+        Some(pieces) => pieces.text(alloc),
+        None => document_text(alloc, resource, rows),
+    }
+}
+
+/// The text of the patch that leads from rows to others which differ at these keys, which rise.
+fn patch_text<R: RowStore>(
     alloc: Global,
     resource: &Resource,
     form: PatchForm,
     before: &R,
     after: &R,
     keys: &[Key],
-) -> Result<Reply, AllocError>
+) -> Result<Vec<u8>, AllocError>
     requires good_before { AreGood (R.rows before.now) }
     requires good { AreGood (R.rows after.now) }
     requires declared { is_declared (R.rows after.now) resource.now ≡ true }
     requires rising { IsStrictlySortedBy key_cmp keys.now }
-    ensures has_bytes { IfOk result IsReply }
-    ensures reply { IfOk result (λ reply. reply
-        ≡ content_reply resource.now (patch form resource.now (R.rows before.now) (R.rows after.now) keys.now)) }
+    ensures { IfOk result (λ bytes. bytes.items
+        ≡ compact_text (content_data (patch form resource.now (R.rows before.now) (R.rows after.now) keys.now))) }
 {
     match form {
-        PatchForm::Merge => {
-            let change = merge_text(alloc, resource, after, keys)?;
-            ok_reply(alloc, MERGE_PATCH, change)
-        }
-        PatchForm::Operations => {
-            let changes = operations_text(alloc, resource, before, after, keys)?;
-            ok_reply(alloc, JSON_PATCH, changes)
-        }
+        PatchForm::Merge => merge_text(alloc, resource, after, keys),
+        PatchForm::Operations => operations_text(alloc, resource, before, after, keys),
+    }
+}
+
+/// The media type of a patch in a form.
+fn patch_type(form: PatchForm) -> &'static str
+    ensures { result.now ≡ patch_type form }
+{
+    match form {
+        PatchForm::Merge => MERGE_PATCH,
+        PatchForm::Operations => JSON_PATCH,
     }
 }
 

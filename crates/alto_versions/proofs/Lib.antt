@@ -1,8 +1,10 @@
 pub mod CourseLemmas
 pub mod FoundLemmas
+pub mod FollowedLemmas
 pub mod GraphLemmas
 pub mod MatchLemmas
 pub mod PrefixLemmas
+pub mod PushedLemmas
 pub mod ResourceLemmas
 pub mod TableLemmas
 pub mod TextLemmas

@@ -1,3 +1,4 @@
+pub mod Followed
 pub mod Front
 pub mod Graphs
 pub mod Course

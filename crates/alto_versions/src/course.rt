@@ -8,6 +8,7 @@ ghost use Rattle.alto_book.specs.Legal.{IsLegal};
 ghost use Rattle.alto_versions.specs.Course.{Follows};
 ghost use Rattle.alto_versions.specs.Front.{StandsFor};
 
+use crate::followed::Followed;
 use crate::front::Front;
 use crate::graphs::graphs_after;
 use crate::tables::tables_of;
@@ -16,7 +17,6 @@ use alto_rows::{Resource, RowStore, Write};
 use std::alloc::{AllocError, Global};
 use std::marker::Model;
 use std::sync::Arc;
-use tips_graph::Graph;
 
 /// A version in the making: all of it but the range tables and the texts, which cost much and are asked for at the end
 /// alone. So many batches in a row are gone through as fast as their rows. A contract sees the number, the rows and the
@@ -25,7 +25,7 @@ use tips_graph::Graph;
 pub struct Course<R: RowStore> {
     n: u64,
     rows: Arc<R>,
-    graphs: Vec<(Resource, Arc<Graph<R>>)>,
+    graphs: Vec<(Resource, Arc<Followed<R>>)>,
 }
 
 impl<R: RowStore> Model for Course<R> {
@@ -50,7 +50,7 @@ impl<R: RowStore> Course<R> {
             → R.rows (arc_value rows) ≡ book.base → Follows course book) }
     {
         let none = Vec::new(alloc);
-        let graphs = graphs_after(alloc, &none, &rows, &[])?;
+        let graphs = graphs_after(alloc, &none, &[], &rows, &[])?;
         Ok(Course {
             n: number,
             rows,
@@ -77,7 +77,7 @@ impl<R: RowStore> Course<R> {
             → Follows self.now book → Follows course (with_batch book batch)) }
     {
         let rows = Arc::new(alloc, rows)?;
-        let graphs = graphs_after(alloc, &self.graphs, &rows, writes)?;
+        let graphs = graphs_after(alloc, &self.graphs, &[], &rows, writes)?;
         Ok(Course {
             n: self.n + 1,
             rows,

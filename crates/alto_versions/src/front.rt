@@ -7,6 +7,7 @@ ghost use Rattle.alto_book.specs.Acceptance.{with_batch};
 ghost use Rattle.alto_versions.specs.Front.{StandsFor, graph_in, table_in};
 ghost use Rattle.alto_versions.specs.Texts.{declared_text};
 
+use crate::followed::Followed;
 use crate::graphs::{graphs_after, is_same};
 use crate::tables::{table_of, tables_after};
 use crate::texts::{text_of, texts_after};
@@ -30,7 +31,7 @@ pub struct Front<R: RowStore> {
     /// The rows.
     pub rows: Arc<R>,
     /// The updates graph of each declared resource, in the order of resources.
-    pub graphs: Vec<(Resource, Arc<Graph<R>>)>,
+    pub graphs: Vec<(Resource, Arc<Followed<R>>)>,
     /// The range table of each declared network, in the order of their names.
     pub tables: Vec<(NetName, Arc<RangeTable>)>,
     /// The text of the document of each declared resource, in pieces, in the order of resources.
@@ -59,6 +60,13 @@ impl<R: RowStore> Front<R> {
     /// The updates graph of a resource, where it is kept. Linear in the number of those that are.
     pub fn graph(&self, of: &Resource) -> Option<&Graph<R>>
         ensures { option_map (λ graph. graph.now) result ≡ graph_in self.now.graphs of.now }
+    {
+        Some(self.followed(of)?.graph())
+    }
+
+    /// The same, with the texts that are kept of its numbers.
+    pub fn followed(&self, of: &Resource) -> Option<&Followed<R>>
+        ensures { option_map (λ followed. followed.now) result ≡ graph_in self.now.graphs of.now }
     {
         for (resource, graph) in &self.graphs {
             if is_same(of, resource) {
@@ -100,9 +108,9 @@ impl<R: RowStore> Front<R> {
             → StandsFor self.now book → StandsFor version (with_batch book batch.now)) }
     {
         let rows = Arc::new(alloc, self.rows.with(alloc, &batch.writes)?)?;
-        let graphs = graphs_after(alloc, &self.graphs, &rows, &batch.writes)?;
-        let tables = tables_after(alloc, &self.tables, &*rows, &batch.writes)?;
         let texts = texts_after(alloc, &self.texts, &*rows, &batch.writes)?;
+        let graphs = graphs_after(alloc, &self.graphs, &texts, &rows, &batch.writes)?;
+        let tables = tables_after(alloc, &self.tables, &*rows, &batch.writes)?;
         Ok(Front {
             n: self.n + 1,
             rows,

@@ -1,11 +1,12 @@
 //! The updates graphs of a version, made from those of the version before. All that a batch left is shared.
-ghost use Rattle.std.specs.Prelude.{◌≡◌, ◌≤◌, ◌<◌, ◌^◌, ◌-◌, [], IfOk, option_map};
+ghost use Rattle.std.specs.Prelude.{◌≡◌, ◌≤◌, ◌<◌, ◌^◌, ◌-◌, [], true, IfOk, IfSome, option_map};
 ghost use Rattle.std.specs.Arc.{arc_value};
 ghost use Rattle.std.specs.BTreeMap.{is_at};
 ghost use Rattle.std.specs.Ordering.{is_lt};
 ghost use Rattle.alto_rows.specs.Good.{AreGood};
 ghost use Rattle.alto_rows.specs.Order.{resource_cmp};
-ghost use Rattle.alto_rows.specs.Versions.{version_of, window_of};
+ghost use Rattle.alto_rows.specs.Versions.{is_declared, version_of, window_of};
+ghost use Rattle.alto_rows.specs.declared.resource.Resource.{Resource as TheResource};
 ghost use Rattle.alto_rows.specs.Accepted.{Accepted};
 ghost use Rattle.alto_book.specs.Acceptance.{with_batch};
 ghost use Rattle.alto_book.specs.Book.{Book, rows_of};
@@ -15,12 +16,15 @@ ghost use Rattle.alto_versions.specs.Front.{graphs_of};
 ghost use Rattle.alto_versions.specs.Graphs.{entries, push_after};
 ghost use Rattle.tips_graph.specs.Graph.{with_push};
 ghost use Rattle.alto_versions.specs.Graphs as made;
+ghost use Rattle.alto_versions.specs.Texts.{map_pieces, text_in};
 
+use crate::followed::Followed;
 use crate::resources::resources_of;
+use crate::texts::text_of;
 use alto_rows::{Key, Resource, RowStore, Value, Write, touches};
+use doc_pieces::Pieces;
 use std::alloc::{AllocError, Global};
 use std::sync::Arc;
-use tips_graph::Graph;
 
 /// The updates graphs after a batch with these writes, which led to these rows. They share the rows, and the graphs of
 /// all that the batch gave no number. With no graphs and no writes they are those of a base with these rows.
@@ -29,11 +33,14 @@ use tips_graph::Graph;
 /// and a look at each write for each that has a new number.
 pub(crate) fn graphs_after<R: RowStore>(
     alloc: Global,
-    graphs: &[(Resource, Arc<Graph<R>>)],
+    graphs: &[(Resource, Arc<Followed<R>>)],
+    texts: &[(Resource, Arc<Pieces>)],
     rows: &Arc<R>,
     writes: &[Write],
-) -> Result<Vec<(Resource, Arc<Graph<R>>)>, AllocError>
-    requires { AreGood (R.rows (arc_value rows.now)) }
+) -> Result<Vec<(Resource, Arc<Followed<R>>)>, AllocError>
+    requires good { AreGood (R.rows (arc_value rows.now)) }
+    requires texts { (of : TheResource)
+        → IfSome (text_in (entries texts.now) of) (λ text. text ≡ map_pieces (R.rows (arc_value rows.now)) of) }
     ensures later { IfOk result (λ after. (book : Book) (batch : Accepted) → IsLegal book
         → IsLegal (with_batch book batch)
         → R.rows (arc_value rows.now) ≡ rows_of (with_batch book batch) → writes.now ≡ batch.writes
@@ -45,7 +52,14 @@ pub(crate) fn graphs_after<R: RowStore>(
     let mut after = Vec::new(alloc);
     for of in resources_of(alloc, &**rows)? {
         left = graphs_from(left, &of);
-        let graph = graph_after(alloc, leading_graph(left, &of), &of, rows, writes)?;
+        let graph = graph_after(
+            alloc,
+            leading_graph(left, &of),
+            text_of(texts, &of),
+            &of,
+            rows,
+            writes,
+        )?;
         after.push((of, graph))?;
     }
     Ok(after)
@@ -53,9 +67,9 @@ pub(crate) fn graphs_after<R: RowStore>(
 
 /// Graphs from the first that isn't of a resource before this one. Linear in the number of those before.
 fn graphs_from<'a, R: RowStore>(
-    graphs: &'a [(Resource, Arc<Graph<R>>)],
+    graphs: &'a [(Resource, Arc<Followed<R>>)],
     of: &Resource,
-) -> &'a [(Resource, Arc<Graph<R>>)]
+) -> &'a [(Resource, Arc<Followed<R>>)]
     ensures { entries result.now ≡ made.graphs_from (entries graphs.now) of.now }
 {
     let mut left = graphs;
@@ -70,9 +84,9 @@ fn graphs_from<'a, R: RowStore>(
 
 /// The graph of a resource, where these begin with it.
 fn leading_graph<'a, R: RowStore>(
-    graphs: &'a [(Resource, Arc<Graph<R>>)],
+    graphs: &'a [(Resource, Arc<Followed<R>>)],
     of: &Resource,
-) -> Option<&'a Arc<Graph<R>>>
+) -> Option<&'a Arc<Followed<R>>>
     ensures { option_map (λ graph. arc_value graph.now) result ≡ made.leading_graph (entries graphs.now) of.now }
 {
     let (first, _) = graphs.split_first()?;
@@ -81,6 +95,13 @@ fn leading_graph<'a, R: RowStore>(
     } else {
         None
     }
+}
+
+/// A copy of a resource.
+pub(crate) fn copy_of(of: &Resource) -> Result<Resource, AllocError>
+    ensures { IfOk result (λ copy. copy ≡ of.now) }
+{
+    of.clone()
 }
 
 /// Whether two resources are one.
@@ -101,23 +122,32 @@ fn is_before(of: &Resource, other: &Resource) -> bool
 /// version, and begun with its version where it had none.
 fn graph_after<R: RowStore>(
     alloc: Global,
-    graph: Option<&Arc<Graph<R>>>,
+    graph: Option<&Arc<Followed<R>>>,
+    text: Option<&Arc<Pieces>>,
     of: &Resource,
     rows: &Arc<R>,
     writes: &[Write],
-) -> Result<Arc<Graph<R>>, AllocError>
-    requires { AreGood (R.rows (arc_value rows.now)) }
+) -> Result<Arc<Followed<R>>, AllocError>
+    requires good { AreGood (R.rows (arc_value rows.now)) }
+    requires declared { is_declared (R.rows (arc_value rows.now)) of.now ≡ true }
+    requires text { IfSome (option_map (λ text. arc_value text.now) text)
+        (λ text. text ≡ map_pieces (R.rows (arc_value rows.now)) of.now) }
     ensures { IfOk result (λ after. arc_value after
         ≡ made.graph_after (option_map (λ graph. arc_value graph.now) graph.entry)
         of.now (R.rows (arc_value rows.now)) writes.now) }
 {
-    let version = version(&**rows, of.clone()?);
+    let version = version(&**rows, copy_of(of)?);
     let Some(graph) = graph else {
-        let begun = Graph::resume(alloc, window(&**rows), version.saturating_sub(1))?;
-        return pushed(alloc, &begun, of, rows, writes);
+        let begun = Followed::resume(
+            alloc,
+            copy_of(of)?,
+            window(&**rows),
+            version.saturating_sub(1),
+        )?;
+        return pushed(alloc, &begun, text, of, rows, writes);
     };
-    if graph.reached() < version {
-        return pushed(alloc, graph, of, rows, writes);
+    if graph.graph().reached() < version {
+        return pushed(alloc, graph, text, of, rows, writes);
     }
     Arc::try_clone(graph)
 }
@@ -125,17 +155,22 @@ fn graph_after<R: RowStore>(
 /// The graph of a resource with one number more, which these writes made.
 fn pushed<R: RowStore>(
     alloc: Global,
-    graph: &Graph<R>,
+    graph: &Followed<R>,
+    text: Option<&Arc<Pieces>>,
     of: &Resource,
     rows: &Arc<R>,
     writes: &[Write],
-) -> Result<Arc<Graph<R>>, AllocError>
-    requires { graph.now.last < 2 ^ 63 - 1 }
+) -> Result<Arc<Followed<R>>, AllocError>
+    requires room { graph.now.last < 2 ^ 63 - 1 }
+    requires good { AreGood (R.rows (arc_value rows.now)) }
+    requires declared { is_declared (R.rows (arc_value rows.now)) of.now ≡ true }
+    requires text { IfSome (option_map (λ text. arc_value text.now) text)
+        (λ text. text ≡ map_pieces (R.rows (arc_value rows.now)) of.now) }
     ensures { IfOk result (λ after. arc_value after
         ≡ with_push graph.now (push_after of.now (R.rows (arc_value rows.now)) writes.now)) }
 {
     let keys = touching(alloc, of, writes)?;
-    Ok(Arc::new(alloc, graph.push(alloc, rows, &keys)?)?)
+    Ok(Arc::new(alloc, graph.push(alloc, of, rows, &keys, text)?)?)
 }
 
 /// The version that a resource has reached. One search.

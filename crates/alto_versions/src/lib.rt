@@ -9,11 +9,14 @@
 #![tactic(auto)]
 
 mod course;
+mod followed;
 mod front;
 mod graphs;
+mod number_texts;
 mod resources;
 mod tables;
 mod texts;
 
 pub use course::Course;
+pub use followed::Followed;
 pub use front::Front;

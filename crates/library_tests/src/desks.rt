@@ -39,7 +39,8 @@ pub(crate) fn imported(
 pub(crate) fn listing(alloc: Global, desk: &MemDesk) -> Result<String, Fail> {
     let front = desk.front();
     let mut text = format!(in alloc; "{} with {} rows", front.n, front.rows.len())?;
-    for (of, graph) in &front.graphs {
+    for (of, followed) in &front.graphs {
+        let graph = followed.graph();
         let name = print_resource(alloc, of)?;
         let numbers = format!(in alloc; ", {} {}-{}", name.as_str(), graph.first(), graph.last())?;
         text.push_str(numbers.as_str())?;

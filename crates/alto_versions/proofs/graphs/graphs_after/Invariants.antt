@@ -1,6 +1,7 @@
-use Rattle.std.proofs.Common.{◌≡◌, ◌++◌}
+use Rattle.std.proofs.Common.{◌≡◌, ◌++◌, true}
 use Rattle.std.specs.Arc.{arc_value}
-use Rattle.alto_rows.specs.Versions.{resources_of}
+use Rattle.std.specs.List.{AllByRecursion}
+use Rattle.alto_rows.specs.Versions.{is_declared, resources_of}
 use Rattle.alto_versions.specs.Graphs.{entries}
 use Rattle.alto_versions.proofs.MatchLemmas.{matched}
 use Rattle.alto_versions.proofs.graphs.graphs_after.Given as goal
@@ -9,5 +10,9 @@ use Rattle.alto_versions.proofs.graphs.graphs_after.Given as goal
 abbrev pub invariant-loop-of : goal.invariant-loop-of
 invariant-loop-of g l =
     let rows = g.R.RowStore.rows (arc_value l.rows) in
-    entries l.after.items ++ matched l.of-iterator.rest.items (entries l.left) rows l.writes
-    ≡ matched (resources_of rows) (entries l.graphs) rows l.writes
+    let left = l.of-iterator.rest.items in
+    record {
+      declared : AllByRecursion (λ of. is_declared rows of ≡ true) left;
+      whole : entries l.after.items ++ matched left (entries l.left) rows l.writes
+          ≡ matched (resources_of rows) (entries l.graphs) rows l.writes;
+    }

@@ -1,6 +1,6 @@
 use Rattle.std.proofs.Common.{◌≡◌, drop}
 use Rattle.alto_versions.specs.Front.{graph_in}
-use Rattle.alto_versions.proofs.front.Front.graph.Given as goal
+use Rattle.alto_versions.proofs.front.Front.followed.Given as goal
 
 -- the graphs so far are of other resources
 abbrev pub invariant-loop-resource : goal.invariant-loop-resource

@@ -4,7 +4,7 @@ use Rattle.std.specs.BTreeMap.{is_at}
 use Rattle.alto_rows.specs.Order.{resource_cmp}
 use Rattle.alto_versions.specs.Front.{Version}
 use Rattle.alto_versions.proofs.FoundLemmas.{from_place}
-use Rattle.alto_versions.proofs.front.Front.graph.Goals as goal
+use Rattle.alto_versions.proofs.front.Front.followed.Goals as goal
 
 pub returns-then-is_same : goal.returns-then-is_same
 returns-then-is_same g c =
