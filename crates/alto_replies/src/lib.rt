@@ -21,4 +21,4 @@ pub use replies::{
     status_alone, too_early, wrong_method,
 };
 pub use reply::Reply;
-pub use writing::reply_bytes;
+pub use writing::{reply_bytes, reply_parts};

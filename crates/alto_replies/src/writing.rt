@@ -11,8 +11,11 @@ use std::alloc::{AllocError, Global};
 /// Room for a head, which few are longer than.
 const HEAD_BYTES: usize = 256;
 
-/// The bytes of a reply (RFC 9112, sections 4 to 6), after which the connection closes or not. Takes memory once for a
-/// head that isn't uncommonly long, and copies the body once.
+/// A body of more bytes isn't copied behind its head.
+const LONGEST_COPIED: usize = 32768;
+
+/// The bytes of a reply (RFC 9112, sections 4 to 6), after which the connection closes or not. Copies the body once.
+/// Takes memory once, where neither the head nor the body is uncommonly long.
 #[tactic(auto, unfolding(crate::specs::Reply::bytes_of))]
 pub fn reply_bytes(alloc: Global, reply: &Reply, close: bool) -> Result<Vec<u8>, AllocError>
     requires { IsReply reply.now }
@@ -23,12 +26,30 @@ pub fn reply_bytes(alloc: Global, reply: &Reply, close: bool) -> Result<Vec<u8>,
     Ok(bytes)
 }
 
-/// The status line and the fields, with the empty line after them, with room for the body behind them.
+/// The bytes of a reply in two parts, to be written one after the other. A body that isn't long stands in the first, so
+/// that one write puts out the reply. A long one is the second, and isn't copied.
+#[tactic(auto, unfolding(crate::specs::Reply::bytes_of))]
+pub fn reply_parts(
+    alloc: Global,
+    reply: Reply,
+    close: bool,
+) -> Result<(Vec<u8>, Vec<u8>), AllocError>
+    requires { IsReply reply }
+    ensures { IfOk result (λ parts. parts.0.items ++ parts.1.items ≡ bytes_of reply close) }
+{
+    if reply.body.len() <= LONGEST_COPIED {
+        return Ok((reply_bytes(alloc, &reply, close)?, Vec::new(alloc)));
+    }
+    let head = head(alloc, &reply, close)?;
+    Ok((head.into_bytes(), reply.body))
+}
+
+/// The status line and the fields, with the empty line after them, with room for a body behind them.
 fn head(alloc: Global, reply: &Reply, close: bool) -> Result<String, AllocError>
     requires { IsReply reply.now }
     ensures { IfOk result (λ head. string_bytes head ≡ head_of reply.now close) }
 {
-    let mut head = String::with_capacity(alloc, reply.body.len().saturating_add(HEAD_BYTES))?;
+    let mut head = String::with_capacity(alloc, reply.body.len().min(LONGEST_COPIED) + HEAD_BYTES)?;
     write_status(&mut head, reply.status)?;
     write_type(&mut head, reply.content_type.as_str())?;
     write_length(&mut head, reply.body.len())?;
