@@ -1,12 +1,12 @@
 -- A connection's requests one after another, and its end.
-use Rattle.std.proofs.Common.{◌≡◌, ◌≢◌, ℕ, ◌+◌, ◌<◌, List, [], ◌∷◌, ◌++◌, length, Option, Some, None, refl, sym, ap, subst, ◌∙◌, inl, inr, length-append, append_assoc, append-nil, arith}
+use Rattle.std.proofs.Common.{◌≡◌, ◌≢◌, ℕ, ◌+◌, ◌<◌, List, [], ◌∷◌, ◌++◌, length, Option, Some, None, refl, sym, ap, ◌∙◌, inl, inr, length-append, append_assoc, append-nil, arith}
 use Rattle.std.proofs.lemmas.Grind.{flat_map-append}
 use Rattle.std.proofs.lemmas.List.{length-map, map-append}
 use Rattle.std.proofs.lemmas.List.Elements.{All-append, All-nil, All-push}
 use Rattle.std.proofs.lemmas.Option.{IfSome_then}
 use Rattle.alto_http.specs.Link.{extended, followed_by}
 use Rattle.alto_http.specs.Request.{RequestData}
-use Rattle.alto_http.specs.Splits.{Begins, Ending, cut, Splits}
+use Rattle.alto_http.specs.Splits.{Ending, cut, Splits}
 use Rattle.alto_http.proofs.Fronts.{begin_needs_no_more}
 use Rattle.alto_serve.specs.declared.end.End.{End}
 use Rattle.alto_serve.specs.declared.end.End.TheVariants as end
@@ -68,7 +68,7 @@ ended_on end.Memory setting bytes rest left first more tail never begins (behind
 
 -- ---- an office and a link
 
-extended_on : (out : Option (List ℕ)) (xs ys : List ℕ) → extended (extended out xs) ys ≡ extended out (xs ++ ys)
+pub extended_on : (out : Option (List ℕ)) (xs ys : List ℕ) → extended (extended out xs) ys ≡ extended out (xs ++ ys)
 extended_on None xs ys = refl
 extended_on (Some out) xs ys = ap Some (append_assoc out xs ys)
 

@@ -8,7 +8,7 @@ use Rattle.alto_book.specs.Book.{Book, Extends}
 use Rattle.alto_book.specs.Import.{Import}
 use Rattle.alto_book.specs.Legal.{IsLegal}
 use Rattle.alto_book.proofs.AcceptanceLemmas.{accept_extends, accept_legal, extends_itself, extends_on}
-use Rattle.alto_serve.specs.Events.{Event, looked, entered, submitted, waited, wrote, Known, known_after, MayHappen, IsGrown, IsHistory, Emits, PrefixOf, book_after, bytes_in}
+use Rattle.alto_serve.specs.Events.{Event, looked, entered, submitted, wrote, Known, known_after, MayHappen, IsGrown, IsHistory, Emits, PrefixOf, book_after, bytes_in}
 
 -- ---- books
 

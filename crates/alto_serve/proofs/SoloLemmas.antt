@@ -1,5 +1,5 @@
 -- The office over one desk.
-use Rattle.std.proofs.Common.{◌≡◌, ◌≢◌, ℕ, true, [], ◌∷◌, Result, Ok, Err, IfOk, IfErr, OnOk, OnErr, refl, sym, ◌∙◌, ap, inl, inr, All, arith}
+use Rattle.std.proofs.Common.{◌≡◌, ◌≢◌, ℕ, true, [], ◌∷◌, Result, Ok, Err, IfOk, IfErr, OnOk, OnErr, refl, sym, ◌∙◌, inl, inr, All, arith}
 use Rattle.alto_edits.specs.Edits.{IsEdit}
 use Rattle.alto_book.specs.Acceptance.{accept}
 use Rattle.alto_book.specs.Book.{Book}
@@ -12,7 +12,7 @@ use Rattle.alto_book.proofs.AcceptanceLemmas.{accept_legal, refused_leaves}
 use Rattle.alto_desk.specs.Counts.{after_edit}
 use Rattle.alto_http.specs.Link.{one_more}
 use Rattle.alto_serve.proofs.EventLemmas.{grown_itself}
-use Rattle.alto_serve.specs.Events.{looked, entered, submitted, waited, Known, IsLook, Emits, IsSubmitted, OneLook, OneWait, PrefixOf, Submits}
+use Rattle.alto_serve.specs.Events.{entered, submitted, Known, IsLook, Emits, IsSubmitted, PrefixOf, Submits}
 
 abbrev pub solo_known : Book → ℕ → ℕ → ℕ → Known
 solo_known book looks waits faults =
@@ -22,16 +22,6 @@ solo_known book looks waits faults =
 look_same : (book look : Book) → IsLegal book → look ≡ book → IsLook true book look
 look_same book look legal same =
     record { legal = rw same legal; grown = rw same (grown_itself book); same = λ is. same }
-
-pub solo_looks : (book : Book) (looks waits faults after : ℕ) → IsLegal book → after ≡ one_more looks
-    → Emits true (OneLook book) (solo_known book looks waits faults) (solo_known book after waits faults)
-solo_looks book looks waits faults after legal more =
-    (looked book ∷ [], (look_same book book legal refl, tt), ap (λ n. solo_known book n waits faults) more, refl)
-
-pub solo_waits : (book : Book) (looks waits faults after n : ℕ) → after ≡ one_more waits
-    → Emits true (OneWait n) (solo_known book looks waits faults) (solo_known book looks after faults)
-solo_waits book looks waits faults after n more =
-    (waited n ∷ [], (tt, tt), ap (λ n. solo_known book looks n faults) more, refl)
 
 module _ (book later : Book) (import : Import) (moment looks waits faults after counted : ℕ) (legal : IsLegal book)
     (more : after ≡ one_more looks) where
@@ -77,8 +67,3 @@ module _ (book later : Book) (import : Import) (moment looks waits faults after 
     (submitted import moment 0 (Err fault.Keeper) book ∷ [], (Err fault.Keeper, (book, 0, book, refl))),
   )
   solo_lost _ count stayed is = cc
-
-pub solo_stays : (r : Result Receipt EditFault) (book later : Book) → IsLegal book → OnErr r (later ≡ book)
-    → r ≡ Err fault.Memory → IsLook true book later
-solo_stays (Ok receipt) book later legal stayed is = cc
-solo_stays (Err why) book later legal stayed is = look_same book later legal stayed

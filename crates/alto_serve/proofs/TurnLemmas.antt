@@ -1,5 +1,5 @@
 -- A request's turn, event by event.
-use Rattle.std.proofs.Common.{◌≡◌, ◌⊎◌, ℕ, suc, Bool, true, false, List, [], ◌∷◌, ◌++◌, Option, Result, Ok, Err, OnErr, refl, sym, subst, inl, inr, append-nil}
+use Rattle.std.proofs.Common.{◌≡◌, ◌⊎◌, ℕ, suc, Bool, true, false, List, [], ◌∷◌, ◌++◌, Option, Result, Ok, Err, OnErr, refl, sym, inl, inr, append-nil}
 use Rattle.std.proofs.lemmas.Bool.{false≢true}
 use Rattle.alto_book.specs.Book.{Book, number_of}
 use Rattle.alto_book.specs.Import.{Import}
@@ -128,13 +128,6 @@ module _ (alone : Bool) (setting : Setting) (request : RequestData) (before mid 
       let turn = concludes_turn setting request book met end.0 xs zs first end.1 in
       (turn.0, turn.1)))
 
--- in a look
-pub looked_cut_off : (alone : Bool) (setting : Setting) (request : RequestData) (before after : Known)
-    → Emits alone (PrefixOf (HasLooked setting.client request setting.most_waits)) before after
-    → Emits alone (IsCutOff setting request) before after
-looked_cut_off alone setting request before after (xs, may, is, (rest, (left, book, reached))) =
-    (xs, may, is, (rest, (sees left book, (reached, tt))))
-
 -- behind its last event
 pub turn_prefix : (setting : Setting) (request : RequestData) (events : List Event) (told : ReplyData)
     → TakesTurn setting request events told → IsCutOff setting request events
@@ -149,19 +142,10 @@ whole_cut_off alone setting request told before after (xs, may, is, turn) =
 
 -- ---- out of memory
 
-pub emits_prefix : (alone : Bool) (P : List Event → Type 0) (before after : Known) → Emits alone P before after
-    → Emits alone (PrefixOf P) before after
-emits_prefix alone P before after (xs, may, is, holds) = (xs, may, is, prefix_whole P xs holds)
-
-pub none_prefix : (alone : Bool) (P : List Event → Type 0) (known : Known) (events : List Event) → P events
-    → Emits alone (PrefixOf P) known known
-none_prefix alone P known events holds = ([], tt, refl, (events, holds))
-
 -- for the reply to the next edge, which comes too early
 pub hold_lost : (alone : Bool) (time : Option ℕ) (met : Answer) (known : Known) (of : Resource) (i j : ℕ)
     → answer.Hold of i j ≡ met → Emits alone (PrefixOf (IsConcluded time met)) known known
-hold_lost alone time met known of i j is =
-    none_prefix alone (IsConcluded time met) known [] (too_early i, rw (← is) (refl, refl))
+hold_lost alone time met known of i j is = ([], tt, refl, ([], (too_early i, rw (← is) (refl, refl))))
 
 module _ (alone : Bool) (time : Option ℕ) (met : Answer) (before after : Known) (import : Import) (moment : ℕ)
     (is : answer.Edit import ≡ met) (timely : IsMoment time moment) where

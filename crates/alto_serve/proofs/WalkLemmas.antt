@@ -11,7 +11,7 @@ use Rattle.alto_rows.specs.Versions.{is_declared}
 use Rattle.alto_rows.proofs.IdLemmas.{names_if_declared, unambiguous}
 use Rattle.tips_graph.specs.declared.status.EdgeStatus.{EdgeStatus}
 use Rattle.tips_graph.specs.declared.status.EdgeStatus.TheVariants.{Awaited, Here}
-use Rattle.alto_book.specs.Book.{Book, Extends, rows_of}
+use Rattle.alto_book.specs.Book.{Book, rows_of}
 use Rattle.alto_book.specs.Legal.{IsLegal}
 use Rattle.alto_book.specs.Numbers.{status_at}
 use Rattle.alto_book.specs.Walks as walks
@@ -82,7 +82,7 @@ edge_answer look client request of edge met legal asks is =
     by : (v : Verb) → IsEdgeAnswer look of edge (edges_answer v look (patch_form request.accept)
         (segment (path_of request.target) 2) (segment (path_of request.target) 4) (segment (path_of request.target) 5))
     by verb.Get =
-        let named = named-by_id (rows_of look) _ of (good_rows look legal) asks.resource asks.id in
+        let named = named-by_id (rows_of look) _ of (good_rows look legal) asks.good asks.id in
         rw named (if_declared (is_declared (rows_of look) of) refl)
     by _ = λ ok. absurd (omega (arith, ok))
 

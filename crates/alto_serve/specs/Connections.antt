@@ -60,14 +60,14 @@ refusal_at (refused fault) = wrote (refusal_bytes (head_status fault)) ∷ []
 refusal_at _ = []
 
 -- memory ran out while the rest of the bytes was read, in which case no event happened, or in the turn of the request
--- that it begins with
+-- that the rest begins with
 abbrev pub RunsOutOfMemory : Setting → List ℕ → List Event → Type 0
 RunsOutOfMemory setting rest events =
     (events ≡ [])
     ⊎ ((request : RequestData) × (behind : List ℕ) × Begins rest request behind × IsCutOff setting request events)
 
--- what is written next, behind these events: the reply to the next request, the refusal of what is none, or a 500 where
--- memory ran out
+-- what is written next, behind these events: the reply to the next request, the refusal of bytes that are no request,
+-- or a 500 where memory ran out
 abbrev pub IsWrittenNext : Setting → List ℕ → List Event → List ℕ → Type 0
 IsWrittenNext setting rest events bytes =
     ((request : RequestData) × (behind : List ℕ) × (reply : ReplyData)
@@ -75,11 +75,12 @@ IsWrittenNext setting rest events bytes =
     ⊎ ((fault : HeadFault) × IsRefused rest fault × (events ≡ []) × (bytes ≡ refusal_bytes (head_status fault)))
     ⊎ (RunsOutOfMemory setting rest events × (bytes ≡ memory_reply))
 
--- the table of ends: which requests the bytes of a link are, and what happens behind their turns, the tail. `left` are
--- the bytes that the link didn't give. Closed: the bytes end there, behind a request that closes, or in a refusal,
--- which is written. Cut: nothing. Limit: nothing, and more bytes may follow. ReadFault: the requests are those that lie
--- whole in the bytes that were given. WriteFault: of what is next a part is written, perhaps none or all, and its turn
--- was taken. Memory: a 500 is written
+-- the table of ends: which requests the bytes of a link are, and what happens behind their turns, the tail.
+-- Closed: the bytes end with the last request, or that request closes, or what follows is refused, and the refusal is
+-- written. Cut: the bytes end inside a request, and nothing happens. Limit: nothing happens, and more bytes may follow.
+-- ReadFault: the requests are those that lie whole in the bytes that were given, which are all but `left`.
+-- WriteFault: a part of the bytes of `IsWrittenNext` was written, perhaps none or all; where these are a reply, its
+-- whole turn came before. Memory: a 500 is written
 abbrev pub Ended : End → Setting → List ℕ → Option (List ℕ) → List RequestData → List Event → Type 0
 Ended end.Closed setting bytes left requests tail =
     (ending : Ending) × (ending ≢ cut) × Splits bytes requests ending × (tail ≡ refusal_at ending)
@@ -102,8 +103,8 @@ abbrev pub EndsUnread : End → List ℕ → Option (List ℕ) → List RequestD
 EndsUnread ended bytes left requests tail =
     (ended ≡ end.Memory) × (requests ≡ []) × (tail ≡ []) × (left ≡ Some bytes)
 
--- at Limit as many requests had their turns as a connection may bring. At another end fewer did and left it open; one
--- that closes it comes last, and isn't counted
+-- at Limit as many requests had their turns as a connection may bring. At any other end fewer had theirs, not counting
+-- a last one that closes
 abbrev pub IsWithinMost : End → List RequestData → Type 0
 IsWithinMost ended requests =
     ((ended ≡ end.Limit) × (length requests ≡ most_requests))
@@ -111,7 +112,8 @@ IsWithinMost ended requests =
 
 -- ---- the whole connection
 
--- what is known of an office, and the bytes that a link has left and out, where it tells them
+-- what is known of an office, and the bytes that a link has still to give, and those that it has put out, where it
+-- tells them
 pub record State : Type 0 where
   pub known : Known
   pub left : Option (List ℕ)
@@ -127,8 +129,8 @@ EmitsOnLink setting P before after =
     Emits setting.alone (λ events. (after.out ≡ extended before.out (bytes_in events)) × P events)
     before.known after.known
 
--- events serve these bytes to this end, of which the link didn't give what is left: the requests that the bytes are had
--- their turns, and then came what the end says
+-- by these events the bytes of a link are served until the connection ends in this way: the requests of the bytes had
+-- their turns, and then came what the end says. `left` is what the link hasn't given
 pub record IsServed (ended : End) (setting : Setting) (bytes : List ℕ) (left : Option (List ℕ)) (events : List Event)
     : Type 0 where
   pub exchanges : List Exchange
@@ -139,8 +141,8 @@ pub record IsServed (ended : End) (setting : Setting) (bytes : List ℕ) (left :
       ⊎ EndsUnread ended bytes left (requests_of exchanges) tail
   pub within : IsWithinMost ended (requests_of exchanges)
 
--- where its link tells its bytes, and else nothing is said: a connection is served to this end; and each walk along the
--- edges that its exchanges gave reaches the document in the book that was seen last
+-- where a link tells its bytes: they are served until the connection ends in this way, and each walk along the edges
+-- that its exchanges gave reaches the document in the book that was seen last. Of other links nothing is said
 abbrev pub Serves : End → Setting → State → State → Type 0
 Serves ended setting before after =
     IfSome before.left (λ bytes. EmitsOnLink setting

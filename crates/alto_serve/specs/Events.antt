@@ -20,9 +20,9 @@ pub data Event : Type 0 where
   looked : Book → Event
   -- a book was looked at once more, to have an import accepted there
   entered : Book → Event
-  -- the import was answered: its timestamp, how many faults of records were counted, the answer, the book seen then
+  -- the import was answered: its timestamp, how often its batch couldn't be stored, the answer, the book seen then
   submitted : Import → ℕ → ℕ → Result Receipt EditFault → Book → Event
-  -- the office waited until there may be more batches than this number
+  -- the office waited for more batches than this number; a wait may end before there are any
   waited : ℕ → Event
   -- bytes were written
   wrote : List ℕ → Event
@@ -65,9 +65,10 @@ pub record Known : Type 0 where
   pub looks : ℕ
   -- how often it was waited
   pub waits : ℕ
-  -- how many failures of the keeper of its records were counted
+  -- how often a batch couldn't be stored
   pub faults : ℕ
-  -- the numbers of the books that were looked at (`looked`), where others may have imports accepted: one for each look
+  -- the numbers of the books that were looked at, one for each `looked`; none is listed where nobody else can add
+  -- imports (`listed`)
   pub looked_at : List ℕ
 
 -- what is known of an office at first
@@ -79,12 +80,12 @@ abbrev pub risen : ℕ → ℕ → ℕ
 risen count zero = count
 risen count (suc times) = one_more (risen count times)
 
--- numbers with that of a book. None is listed where nobody else has imports accepted: a look shows the book seen before
+-- numbers with that of a book. None is listed where nobody else can add imports: a look shows the book seen before
 abbrev pub listed : Bool → List ℕ → Book → List ℕ
 listed true numbers book = numbers
 listed false numbers book = numbers ++ number_of book ∷ []
 
--- what is known after an event. `alone` tells that nobody else has imports accepted
+-- what is known after an event. `alone` tells that nobody else can add imports while the connection is served
 abbrev pub known_after : Bool → Known → Event → Known
 known_after alone known (looked book) =
     record known { seen = book; looks = one_more known.looks; looked_at = listed alone known.looked_at book }
@@ -100,22 +101,22 @@ known_after alone known (wrote bytes) = known
 abbrev pub book_after : Book → Import × ℕ → Book
 book_after book (import, moment) = (accept book import moment).book
 
--- a book is an earlier one after some imports with their timestamps, each of them accepted whole or refused; their
--- edits are in the ranges of their columns
+-- the later book is what the earlier one becomes by some imports with their timestamps, each of them accepted whole or
+-- refused; each of their edits has names that are well formed and values in their ranges (`IsEdit`)
 pub record IsGrown (later earlier : Book) : Type 0 where
   pub imports : List (Import × ℕ)
   pub edits : All (λ import. All IsEdit import.0.edits) imports
   pub whole : later ≡ fold book_after earlier imports
 
--- a book that may be seen next: it is legal and grew from the one that was seen, which it may still be, and is where
--- nobody else has imports accepted
+-- a book that may be seen next: it is legal, and the one that was seen or one that grew from it. Where nobody else can
+-- add imports, it is the one that was seen
 pub record IsLook (alone : Bool) (seen look : Book) : Type 0 where
   pub legal : IsLegal look
   pub grown : IsGrown look seen
   pub same : alone ≡ true → look ≡ seen
 
 -- an event may happen where this book was seen last. A look shows a book that may be seen next. An import is accepted
--- or refused at the book seen last, or its batch couldn't be kept and a fault was counted; then a book is seen that may
+-- or refused at the book seen last, or its batch couldn't be stored and that was counted; then a book is seen that may
 -- be seen next. A wait and a write may always happen
 abbrev pub MayHappen : Bool → Book → Event → Type 0
 MayHappen alone seen (looked book) = IsLook alone seen book

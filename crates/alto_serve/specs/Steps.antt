@@ -1,4 +1,4 @@
--- What one request more does to a connection: the words of the calls inside.
+-- What one request more does to a connection: the definitions that the functions inside `serve_conn` are stated with.
 use Rattle.std.specs.Prelude.{◌≡◌, ◌≢◌, ◌⊎◌, ℕ, Bool, true, false, List, [], ◌∷◌, ◌++◌, length, take, All, Option, Some}
 use Rattle.std.specs.Prelude.{None, IfSome, IsSome, Result}
 use Rattle.alto_book.specs.Book.{Book}
@@ -43,8 +43,8 @@ pub record HasSettled
   pub answered : AnswersTo request book client met
   pub last : (is_pending met ≡ false) ⊎ (left ≡ 0)
 
--- an answer comes to its reply by these events: a reply is that reply; the next edge comes too early; an import is
--- answered, with a timestamp that the clock may have told
+-- an answer comes to its reply by these events: a reply is that reply; for the edge that comes next it is 425; an
+-- import is answered, with a timestamp that the clock may have told
 abbrev pub Concludes : Option ℕ → Answer → List Event → ReplyData → Type 0
 Concludes fixed_time (answer.Reply reply) events given = (events ≡ []) × (given ≡ reply)
 Concludes fixed_time (answer.Hold of i j) events given = (events ≡ []) × (given ≡ too_early i)
@@ -75,7 +75,7 @@ GoesOn setting rest after events =
     (request : RequestData) × (behind : List ℕ) × Begins rest request behind × (request.close ≡ false)
     × (after.left ≡ Some behind) × HasReply setting request events
 
--- the connection ends where the rest of its bytes begins, with the turn of a request that closes at most
+-- the connection ends at these bytes, with no exchange more, or only that of a request that closes
 pub record Finishes (ended : End) (setting : Setting) (rest : List ℕ) (after : State) (events : List Event)
     : Type 0 where
   pub exchanges : List Exchange

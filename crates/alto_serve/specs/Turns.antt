@@ -19,7 +19,7 @@ pub record Setting : Type 0 where
   pub client : Client
   -- the one timestamp that its clock tells, where the clock stands still
   pub fixed_time : Option ℕ
-  -- whether nobody else has imports accepted
+  -- whether nobody else can add imports meanwhile
   pub alone : Bool
   -- how many waits for the next edge a turn may make
   pub most_waits : ℕ
@@ -40,9 +40,10 @@ pub data Stage : Type 0 where
   -- the import was answered, with a timestamp
   has_answer : ℕ → Result Receipt EditFault → Stage
 
--- an event leads a turn from one stage to the next: a look; a wait for a book with more batches, where the request asks
--- for the edge that comes next (`Hold`) and a wait is left; one look more, where it brings an import (`Edit`); what
--- becomes of that import. Any other event leads nowhere, so no turn writes
+-- an event leads a turn from one stage to the next: a look; a wait for a book with more batches, where the request
+-- asks for the edge from a resource's last number to the next, which doesn't exist yet (`Hold`), and a wait is left; one
+-- look more, where it brings an import (`Edit`); what becomes of that import. Any other event leads nowhere, so no turn
+-- writes
 abbrev pub Leads : Client → RequestData → Event → Stage → Stage → Type 0
 Leads client request (looked book) (looks_next left) next = next ≡ sees left book
 Leads client request (waited n) (sees left book) next =
@@ -69,13 +70,15 @@ abbrev pub IsTimely : Option ℕ → Stage → Type 0
 IsTimely fixed_time (has_answer moment decided) = IsMoment fixed_time moment
 IsTimely _ _ = Unit {0}
 
--- events lead a turn from its beginning, where a look is next and no wait was made, to a stage
+-- events lead a turn from its beginning, where a look is next and no wait was made, to a stage; where an import was
+-- answered, its timestamp is one that the clock may have told
 abbrev pub ComesTo : Setting → RequestData → List Event → Stage → Type 0
 ComesTo setting request events stage =
     Reaches setting.client request (looks_next setting.most_waits) events stage × IsTimely setting.fixed_time stage
 
 -- the reply at a stage: what the request is answered at the book that was looked at; 425 where it asks for the edge
--- that comes next, from the last number i, and no wait is left; or what became of its import. No other stage has one
+-- from the resource's last number, i, to the next, and no wait is left; or what became of its import. No other stage
+-- has one
 abbrev pub IsReplied : Client → RequestData → Stage → ReplyData → Type 0
 IsReplied client request (sees left book) reply =
     AnswersTo request book client (answer.Reply reply)
@@ -89,7 +92,7 @@ abbrev pub TakesTurn : Setting → RequestData → List Event → ReplyData → 
 TakesTurn setting request events reply =
     (stage : Stage) × ComesTo setting request events stage × IsReplied setting.client request stage reply
 
--- a turn in which memory ran out: the first events of one came about
+-- a turn in which memory ran out: these events are the first, perhaps all, of events that lead the turn to some stage
 abbrev pub IsCutOff : Setting → RequestData → List Event → Type 0
 IsCutOff setting request events = PrefixOf (λ all. (stage : Stage) × ComesTo setting request all stage) events
 

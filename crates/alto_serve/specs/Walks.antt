@@ -1,5 +1,5 @@
--- The edges that a connection was answered with, and walks along them (RFC 9569, section 3). They lead between the
--- numbers of a resource, which counts the batches that changed it.
+-- The edges that a connection was answered with, and walks along them (RFC 9569, section 3). A resource's number is how
+-- many batches changed it, and an edge leads from one number to another.
 use Rattle.std.specs.Prelude.{◌≡◌, ℕ, ◌≤◌, List, [], ◌∷◌, map, Some, Ok}
 use Rattle.std.specs.List.{Contains}
 use Rattle.serde_json.specs.Data.{Data}
@@ -27,48 +27,52 @@ pub record EdgeAsked : Type 0 where
 
 -- a request asks for this edge of a resource: its path is `/tips/{resource}/ug/{i}/{j}`, of which these are segments 2,
 -- 4 and 5. Its method needn't be named: no other than GET is answered 200
-pub record AsksEdge (client : Client) (request : RequestData) (of : Resource) (edge : EdgeAsked) : Type 0 where
+pub record AsksEdge (client : Client) (request : RequestData) (resource : Resource) (edge : EdgeAsked) : Type 0 where
   pub routed : place_of client.routes (path_of request.target) ≡ Some place.Edge
-  pub resource : IsResource of
-  pub id : resource_id of ≡ segment (path_of request.target) 2
+  pub good : IsResource resource
+  pub id : resource_id resource ≡ segment (path_of request.target) 2
   pub from : edge_number (segment (path_of request.target) 4) ≡ Some edge.i
   pub to : edge_number (segment (path_of request.target) 5) ≡ Some edge.j
   pub accepts : patch_form request.accept ≡ edge.form
 
 -- one of these exchanges gives an edge: its request asked for the edge, and was answered 200
 pub record GivesEdge
-    (client : Client) (exchanges : List Exchange) (of : Resource) (edge : EdgeAsked) (exchange : Exchange)
+    (client : Client) (exchanges : List Exchange) (resource : Resource) (edge : EdgeAsked) (exchange : Exchange)
     : Type 0 where
   pub there : Contains exchanges exchange
-  pub asked : AsksEdge client exchange.request of edge
+  pub asked : AsksEdge client exchange.request resource edge
   pub ok : exchange.reply.status ≡ 200
 
 -- edges are a walk from one number to another: each was given, by any of these exchanges, and begins where the one
 -- before ended
 abbrev pub IsWalkIn : Client → List Exchange → Resource → ℕ → List EdgeAsked → ℕ → Type 0
-IsWalkIn client exchanges of from [] at = from ≡ at
-IsWalkIn client exchanges of from (edge ∷ edges) at =
-    (edge.i ≡ from) × ((exchange : Exchange) × GivesEdge client exchanges of edge exchange)
-    × IsWalkIn client exchanges of edge.j edges at
+IsWalkIn client exchanges resource from [] at = from ≡ at
+IsWalkIn client exchanges resource from (edge ∷ edges) at =
+    (edge.i ≡ from) × ((exchange : Exchange) × GivesEdge client exchanges resource edge exchange)
+    × IsWalkIn client exchanges resource edge.j edges at
 
--- what the book has such an edge hold
+-- what such an edge holds, by this book
 abbrev pub content_in : Book → Resource → EdgeAsked → Content
-content_in book of edge = edge_content book of edge.form edge.i edge.j
+content_in book resource edge = edge_content book resource edge.form edge.i edge.j
 
--- an edge that was asked for, with what the book has it hold
+-- an edge that was asked for, with what it holds by this book
 abbrev pub edge_of : Book → Resource → EdgeAsked → Edge
-edge_of book of edge = record { i = edge.i; j = edge.j; form = edge.form; content = content_in book of edge }
+edge_of book resource edge =
+    record { i = edge.i; j = edge.j; form = edge.form; content = content_in book resource edge }
 
 -- what holds at a book of the edges that exchanges gave, and of walks along them
 pub record WalksReachDocuments (client : Client) (exchanges : List Exchange) (book : Book) : Type 0 where
-  -- the reply that gave an edge is this book's
-  pub replies : (of : Resource) (edge : EdgeAsked) (exchange : Exchange) → GivesEdge client exchanges of edge exchange
-      → exchange.reply ≡ edge_reply book of edge.form edge.i edge.j
-  -- that is, its body is the text of what the book has the edge hold
-  pub bodies : (of : Resource) (edge : EdgeAsked) (exchange : Exchange) → GivesEdge client exchanges of edge exchange
-      → exchange.reply.body ≡ compact_text (content_data (content_in book of edge))
-  -- whoever follows the edges of a walk, at least one, from 0 with nothing, or with the document at its first number,
-  -- holds exactly the document at its last number: no patch fails
-  pub walks : (of : Resource) (from at : ℕ) (first : EdgeAsked) (edges : List EdgeAsked) (held : Data)
-      → IsWalkIn client exchanges of from (first ∷ edges) at → (1 ≤ from → held ≡ document_at book of from)
-      → followed held (map (edge_of book of) (first ∷ edges)) ≡ Ok (document_at book of at)
+  -- a reply that gave an edge, at whatever book, is the reply with what the edge holds by this book, also where the
+  -- edge is past the window by now and would be answered 410
+  pub replies : (resource : Resource) (edge : EdgeAsked) (exchange : Exchange)
+      → GivesEdge client exchanges resource edge exchange
+      → exchange.reply ≡ edge_reply book resource edge.form edge.i edge.j
+  -- that is, its body is the text of what the edge holds by this book
+  pub bodies : (resource : Resource) (edge : EdgeAsked) (exchange : Exchange)
+      → GivesEdge client exchanges resource edge exchange
+      → exchange.reply.body ≡ compact_text (content_data (content_in book resource edge))
+  -- whoever begins with the document at the walk's first number, with anything where that is 0, and follows its edges,
+  -- at least one, holds exactly the document at its last number: no patch fails
+  pub walks : (resource : Resource) (from at : ℕ) (first : EdgeAsked) (edges : List EdgeAsked) (held : Data)
+      → IsWalkIn client exchanges resource from (first ∷ edges) at → (1 ≤ from → held ≡ document_at book resource from)
+      → followed held (map (edge_of book resource) (first ∷ edges)) ≡ Ok (document_at book resource at)

@@ -1,6 +1,6 @@
-ghost use Rattle.std.specs.Prelude.{◌≡◌, false, None, IfSome, List, ℕ};
+ghost use Rattle.std.specs.Prelude.{◌≡◌, ◌<◌, ◌++◌, false, None, IfSome, OnErr, OnOk, List, ℕ, length, take};
 ghost use Rattle.alto_answers.specs.Answers.{client_of};
-ghost use Rattle.alto_http.specs.Link.{followed_by};
+ghost use Rattle.alto_http.specs.Link.{count_after, extended, followed_by};
 ghost use Rattle.alto_http.specs.Splits.{Begins};
 ghost use Rattle.alto_serve.specs.Connections.{EmitsOnLink, Serves, state};
 ghost use Rattle.alto_serve.specs.Events.{IsGrown};
@@ -15,16 +15,17 @@ use crate::refuse::{out_of_memory, refuse};
 use crate::turns::answered;
 use alto_addr::Addr;
 use alto_answers::{Client, Routes, Side};
-use alto_http::{Intake, Link, Request, read_request, write_all};
+use alto_http::{Intake, Link, Request, WriteFault, read_request, write_all};
 use std::alloc::Global;
 
 /// How many requests a connection may bring.
 const MOST_REQUESTS: u32 = 1_000_000;
 
 /// Serves a connection to its end: reads requests, answers each at the version that the office has then, and writes the
-/// replies. The client's address is `peer`, where it is known. The next edge is waited for, `turns` times at most. How
-/// it ended tells what became of the requests that its bytes are, what was written, and how often the office was looked
-/// at and waited.
+/// replies. The client's address is `peer`, where it is known. For the next edge a request waits at most `most_waits`
+/// times.
+/// The clause `served` says, for each end, what became of the requests that the bytes are, what was written, and how
+/// often the office was looked at and waited. In clauses `clock.now` is the clock as it is, and no call.
 pub fn serve_conn<F: Office, L: Link, C: Clock>(
     alloc: Global,
     office: &mut F,
@@ -32,11 +33,11 @@ pub fn serve_conn<F: Office, L: Link, C: Clock>(
     clock: &C,
     side: Side,
     peer: Option<Addr>,
-    turns: u32,
+    most_waits: u32,
 ) -> End
-    // Where the link tells its bytes, their requests have their turns, one after another, up to this end, and each walk
-    // along the edges that were given reaches the document.
-    ensures served { Serves result (setting_of (client_of side peer) (C.tells clock.now) F.alone turns)
+    // Where the link tells its bytes, their requests have their turns, one after another, until the connection ends in
+    // this way, and each walk along the edges that were given reaches the document.
+    ensures served { Serves result (setting_of (client_of side peer) (C.tells clock.now) F.alone most_waits)
         (state (F.known office.old) (L.left link.old) (L.out link.old))
         (state (F.known office.new) (L.left link.new) (L.out link.new)) }
 
@@ -54,7 +55,15 @@ pub fn serve_conn<F: Office, L: Link, C: Clock>(
     };
     let client = Client { routes, peer };
     for _count in 0..MOST_REQUESTS {
-        if let Some(end) = serve_next(alloc, &client, office, &mut intake, link, clock, turns) {
+        if let Some(end) = serve_next(
+            alloc,
+            &client,
+            office,
+            &mut intake,
+            link,
+            clock,
+            most_waits,
+        ) {
             return end;
         }
     }
@@ -69,13 +78,13 @@ fn serve_next<F: Office, L: Link, C: Clock>(
     intake: &mut Intake,
     link: &mut L,
     clock: &C,
-    turns: u32,
+    most_waits: u32,
 ) -> Option<End>
-    ensures on { result ≡ None → let setting = setting_of client.now (C.tells clock.now) F.alone turns in
+    ensures on { result ≡ None → let setting = setting_of client.now (C.tells clock.now) F.alone most_waits in
         Becomes setting (GoesOn setting)
         (state (F.known office.old) (followed_by intake.old (L.left link.old)) (L.out link.old))
         (state (F.known office.new) (followed_by intake.new (L.left link.new)) (L.out link.new)) }
-    ensures ended { IfSome result (λ end. let setting = setting_of client.now (C.tells clock.now) F.alone turns in
+    ensures ended { IfSome result (λ end. let setting = setting_of client.now (C.tells clock.now) F.alone most_waits in
         Becomes setting (Finishes end setting)
         (state (F.known office.old) (followed_by intake.old (L.left link.old)) (L.out link.old))
         (state (F.known office.new) (L.left link.new) (L.out link.new))) }
@@ -87,7 +96,7 @@ fn serve_next<F: Office, L: Link, C: Clock>(
     ensures clean { F.is_clean office.new → F.is_clean office.old }
 {
     match read_request(alloc, intake, link) {
-        Ok(Some(request)) => respond(alloc, client, office, link, clock, &request, turns),
+        Ok(Some(request)) => respond(alloc, client, office, link, clock, &request, most_waits),
         Ok(None) => Some(End::Closed),
         Err(fault) => Some(refuse(alloc, link, fault)),
     }
@@ -101,14 +110,14 @@ fn respond<F: Office, L: Link, C: Clock>(
     link: &mut L,
     clock: &C,
     request: &Request,
-    turns: u32,
+    most_waits: u32,
 ) -> Option<End>
     ensures stays { result ≡ None → request.now.close ≡ false }
-    ensures on { result ≡ None → let setting = setting_of client.now (C.tells clock.now) F.alone turns in
+    ensures on { result ≡ None → let setting = setting_of client.now (C.tells clock.now) F.alone most_waits in
         EmitsOnLink setting (HasReply setting request.now)
         (state (F.known office.old) (L.left link.old) (L.out link.old))
         (state (F.known office.new) (L.left link.new) (L.out link.new)) }
-    ensures ended { IfSome result (λ end. let setting = setting_of client.now (C.tells clock.now) F.alone turns in
+    ensures ended { IfSome result (λ end. let setting = setting_of client.now (C.tells clock.now) F.alone most_waits in
         let after = state (F.known office.new) (L.left link.new) (L.out link.new) in
         (rest behind : List ℕ) → Begins rest request.now behind
         → EmitsOnLink setting (Finishes end setting rest after)
@@ -121,12 +130,26 @@ fn respond<F: Office, L: Link, C: Clock>(
     ensures backed { F.is_backed office.old → F.is_backed office.new }
     ensures clean { F.is_clean office.new → F.is_clean office.old }
 {
-    let Ok(bytes) = answered(alloc, client, office, clock, request, turns) else {
+    let Ok((front, rest)) = answered(alloc, client, office, clock, request, most_waits) else {
         return Some(out_of_memory(link));
     };
-    match write_all(link, &bytes) {
+    match write_parts(link, &front, &rest) {
         Err(_) => Some(End::WriteFault),
         Ok(()) if request.close => Some(End::Closed),
         Ok(()) => None,
     }
+}
+
+/// Puts out two pieces of bytes, one after the other. After an `Err` only a part of them is out, from their beginning
+/// on.
+fn write_parts<L: Link>(link: &mut L, front: &[u8], rest: &[u8]) -> Result<(), WriteFault>
+    ensures ok { OnOk result (L.out link.new ≡ extended (L.out link.old) (front.now ++ rest.now)) }
+    ensures err { OnErr result ((k : ℕ) × (k < length (front.now ++ rest.now))
+        × (L.out link.new ≡ extended (L.out link.old) (take k (front.now ++ rest.now)))) }
+    ensures counted { L.failed_writes link.new ≡ count_after result (L.failed_writes link.old) }
+    ensures left { L.left link.new ≡ L.left link.old }
+    ensures failed_reads { L.failed_reads link.new ≡ L.failed_reads link.old }
+{
+    write_all(link, front)?;
+    write_all(link, rest)
 }

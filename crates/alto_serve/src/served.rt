@@ -45,9 +45,9 @@ pub fn serve_link<F: Office, L: Link, C: Clock>(
     clock: &C,
     side: Side,
     peer: Option<Addr>,
-    turns: u32,
+    most_waits: u32,
 ) -> Served<L>
-    ensures served { Serves result.end (setting_of (client_of side peer) (C.tells clock.now) F.alone turns)
+    ensures served { Serves result.end (setting_of (client_of side peer) (C.tells clock.now) F.alone most_waits)
         (state (F.known office.old) (L.left link) (L.out link))
         (state (F.known office.new) (L.left result.link) (L.out result.link)) }
 
@@ -58,6 +58,6 @@ pub fn serve_link<F: Office, L: Link, C: Clock>(
     ensures clean { F.is_clean office.new → F.is_clean office.old }
 {
     let mut link = link;
-    let end = serve_conn(alloc, office, &mut link, clock, side, peer, turns);
+    let end = serve_conn(alloc, office, &mut link, clock, side, peer, most_waits);
     Served { link, end }
 }

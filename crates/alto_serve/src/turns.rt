@@ -1,5 +1,5 @@
 //! The turn of one request: looks at the office, waits for the next edge, and has an import accepted.
-ghost use Rattle.std.specs.Prelude.{◌≡◌, ◌≢◌, ℕ, Err, IfOk, OnOk, OnErr, All};
+ghost use Rattle.std.specs.Prelude.{◌≡◌, ◌≢◌, ◌++◌, ℕ, Err, IfOk, OnOk, OnErr, All};
 ghost use Rattle.alto_edits.specs.Edits.{IsEdit};
 ghost use Rattle.alto_book.specs.Book.{number_of};
 ghost use Rattle.alto_book.specs.declared.fault.EditFault.TheVariants as fault;
@@ -14,7 +14,7 @@ use crate::office::{Looks, Office};
 use alto_answers::{Answer, Client, answer};
 use alto_desk::{Command, EditFault, Receipt};
 use alto_http::Request;
-use alto_replies::{Reply, edit_reply, reply_bytes, too_early};
+use alto_replies::{Reply, edit_reply, reply_parts, too_early};
 use std::alloc::{AllocError, Global};
 
 /// What a request comes to at a look, and the number of the book that was looked at.
@@ -24,27 +24,27 @@ struct Look {
     number: u64,
 }
 
-/// The bytes of the reply to a request.
+/// The bytes of the reply to a request, in two parts.
 pub(crate) fn answered<F: Office, C: Clock>(
     alloc: Global,
     client: &Client,
     office: &mut F,
     clock: &C,
     request: &Request,
-    turns: u32,
-) -> Result<Vec<u8>, AllocError>
-    ensures ok { IfOk result (λ bytes. Emits F.alone
-        (RepliesWith (setting_of client.now (C.tells clock.now) F.alone turns) request.now bytes.items)
+    most_waits: u32,
+) -> Result<(Vec<u8>, Vec<u8>), AllocError>
+    ensures ok { IfOk result (λ parts. Emits F.alone (RepliesWith
+        (setting_of client.now (C.tells clock.now) F.alone most_waits) request.now (parts.0.items ++ parts.1.items))
         (F.known office.old) (F.known office.new)) }
     ensures err { OnErr result (Emits F.alone
-        (IsCutOff (setting_of client.now (C.tells clock.now) F.alone turns) request.now)
+        (IsCutOff (setting_of client.now (C.tells clock.now) F.alone most_waits) request.now)
         (F.known office.old) (F.known office.new)) }
     ensures book { IsGrown (F.known office.new).seen (F.known office.old).seen }
     ensures backed { F.is_backed office.old → F.is_backed office.new }
     ensures clean { F.is_clean office.new → F.is_clean office.old }
 {
-    let reply = take_turn(alloc, client, office, clock, request, turns)?;
-    reply_bytes(alloc, &reply, request.close)
+    let reply = take_turn(alloc, client, office, clock, request, most_waits)?;
+    reply_parts(alloc, reply, request.close)
 }
 
 /// The reply to a request, which may change the book.
@@ -54,42 +54,42 @@ fn take_turn<F: Office, C: Clock>(
     office: &mut F,
     clock: &C,
     request: &Request,
-    turns: u32,
+    most_waits: u32,
 ) -> Result<Reply, AllocError>
     ensures ok { IfOk result (λ reply. Emits F.alone
-        (λ events. TakesTurn (setting_of client.now (C.tells clock.now) F.alone turns) request.now events reply)
+        (λ events. TakesTurn (setting_of client.now (C.tells clock.now) F.alone most_waits) request.now events reply)
         (F.known office.old) (F.known office.new)) }
     ensures bytes { IfOk result IsReply }
     ensures err { OnErr result (Emits F.alone
-        (IsCutOff (setting_of client.now (C.tells clock.now) F.alone turns) request.now)
+        (IsCutOff (setting_of client.now (C.tells clock.now) F.alone most_waits) request.now)
         (F.known office.old) (F.known office.new)) }
     ensures backed { F.is_backed office.old → F.is_backed office.new }
     ensures clean { F.is_clean office.new → F.is_clean office.old }
 {
-    let answer = settled(alloc, client, office, request, turns)?;
+    let answer = settled(alloc, client, office, request, most_waits)?;
     conclude(alloc, office, clock, answer)
 }
 
-/// What a request comes to in the end: the next edge is looked for again after each wait, and waited for `turns` times
-/// at most.
+/// What a request comes to in the end: the next edge is looked for again after each wait, and waited for at most
+/// `most_waits` times.
 fn settled<F: Office>(
     alloc: Global,
     client: &Client,
     office: &mut F,
     request: &Request,
-    turns: u32,
+    most_waits: u32,
 ) -> Result<Answer, AllocError>
     ensures ok { IfOk result (λ answer. Emits F.alone
-        (HasSettled client.now request.now turns (F.known office.new).seen answer)
+        (HasSettled client.now request.now most_waits (F.known office.new).seen answer)
         (F.known office.old) (F.known office.new)) }
     ensures edits { IfOk result BringsEdits }
     ensures replies { IfOk result HasBytes }
-    ensures err { OnErr result (Emits F.alone (PrefixOf (HasLooked client.now request.now turns))
+    ensures err { OnErr result (Emits F.alone (PrefixOf (HasLooked client.now request.now most_waits))
         (F.known office.old) (F.known office.new)) }
     ensures backed { F.is_backed office.old → F.is_backed office.new }
     ensures clean { F.is_clean office.new → F.is_clean office.old }
 {
-    for _wait in 0..turns {
+    for _wait in 0..most_waits {
         let look = look_at(alloc, client, office, request)?;
         if !is_pending(&look.answer) {
             return Ok(look.answer);

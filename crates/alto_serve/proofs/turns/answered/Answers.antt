@@ -5,7 +5,7 @@ use Rattle.alto_serve.proofs.turns.answered.Goals as goal
 
 pub returns-clause-err : goal.returns-clause-err
 returns-clause-err g c =
-    let setting = setting_of c.args.client.now (g.C.Clock.tells c.args.clock.now) g.F.Looks.alone c.args.turns in
+    let setting = setting_of c.args.client.now (g.C.Clock.tells c.args.clock.now) g.F.Looks.alone c.args.most_waits in
     on_err_anyhow _ (whole_cut_off _ setting _ _ _ _ c.in_ok-reply.ensures.ok)
 
 pub returns-in_err-reply-clause-book : goal.returns-in_err-reply-clause-book

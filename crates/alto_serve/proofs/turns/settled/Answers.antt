@@ -1,13 +1,7 @@
-use Rattle.std.proofs.Common.{◌≡◌, ◌+◌, ◌-◌, [], ap, suc, false, true, inl, inr, refl, arith}
+use Rattle.std.proofs.Common.{◌≡◌, ◌+◌, ◌-◌, suc, false, true, inl, inr, arith}
 use Rattle.alto_serve.specs.Steps.{is_pending}
-use Rattle.alto_serve.specs.Turns.{looks_next}
 use Rattle.alto_serve.proofs.TurnLemmas.{look_lost, on_err_anyhow, turn_settles, turn_waits}
 use Rattle.alto_serve.proofs.turns.settled.Goals as goal
-
-pub loop-wait-init : goal.loop-wait-init
-loop-wait-init g c =
-    let all : c.args.turns ≡ c.args.turns - 0 = omega arith in
-    record { come = ([], tt, refl, ap looks_next all); backed = λ was. was; clean = λ is. is }
 
 pub returns-in_err-look-clause-err : goal.returns-in_err-look-clause-err
 returns-in_err-look-clause-err g c =
@@ -22,7 +16,7 @@ returns-then-not-is_pending-clause-ok g c =
 pub loop-wait-preserved : goal.loop-wait-preserved
 loop-wait-preserved g c =
     let held : is_pending c.in_ok-look.look.answer ≡ true = cc in
-    let one_left : c.args.turns - c.loop-wait._wait ≡ suc (c.args.turns - (c.loop-wait._wait + 1)) = omega arith in
+    let one_left : c.args.most_waits - c.loop-wait._wait ≡ suc (c.args.most_waits - (c.loop-wait._wait + 1)) = omega arith in
     let waits = rw c.in_ok-look.ensures.number at c.wait.ensures.waited in
     record {
       come = turn_waits _ _ _ _ _ _ _ _ _ c.loop-wait.invariant.come _ _ _ held one_left c.in_ok-look.ensures.answer
@@ -37,6 +31,6 @@ returns-in_err-look-2-clause-err g c =
 
 pub returns-clause-ok : goal.returns-clause-ok
 returns-clause-ok g c =
-    let none : c.args.turns - c.loop-wait._wait ≡ 0 = omega arith in
+    let none : c.args.most_waits - c.loop-wait._wait ≡ 0 = omega arith in
     turn_settles _ _ _ _ _ _ _ _ _ c.loop-wait.invariant.come _ (inr none) c.in_ok-look-2.ensures.answer
     c.in_ok-look-2.ensures.ok

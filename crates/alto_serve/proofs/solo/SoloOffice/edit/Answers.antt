@@ -1,4 +1,4 @@
-use Rattle.alto_serve.proofs.SoloLemmas.{solo_lost, solo_stays, solo_submits}
+use Rattle.alto_serve.proofs.SoloLemmas.{solo_lost, solo_submits}
 use Rattle.alto_serve.proofs.solo.SoloOffice.edit.Goals as goal
 
 pub returns-clause-answered : goal.returns-clause-answered
@@ -10,9 +10,3 @@ pub returns-clause-lost : goal.returns-clause-lost
 returns-clause-lost g c =
     solo_lost _ _ _ _ _ _ _ _ _ c.edit.ensures.legal c.saturating_add-self.ensures c.edit.result
     c.edit.ensures.tally c.edit.ensures.unchanged
-
-pub returns-clause-stays : goal.returns-clause-stays
-returns-clause-stays g c = solo_stays c.edit.result _ _ c.edit.ensures.legal c.edit.ensures.unchanged
-
-pub returns-clause-backed : goal.returns-clause-backed
-returns-clause-backed g c = λ backed clean. c.edit.ensures.kept clean (backed (c.edit.ensures.clean clean))
