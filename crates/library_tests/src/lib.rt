@@ -1,6 +1,6 @@
-//! Tests of the libraries, in one crate, so that the gate proves none of these twice: printed texts, tables from
-//! outside, and one use of each call that allocates, on ample memory. What a contract pins has no test. The program's
-//! tests are its own.
+//! Tests of the libraries up to the desk, in one crate, so that the gate proves none of these twice: printed texts,
+//! tables from outside, and one use of each call that allocates, on ample memory. What a contract pins has no test.
+//! The tests of what is served are in `serving_tests`.
 #![tactic(auto)]
 
 #[cfg(test)]
@@ -15,8 +15,6 @@ mod constraints;
 mod crashes;
 #[cfg(test)]
 mod desks;
-#[cfg(test)]
-mod doors;
 #[cfg(test)]
 mod forms;
 #[cfg(test)]

@@ -1,11 +1,12 @@
 //! `alto_doors`.
-use crate::desks::{MemDesk, new_desk};
 use alto_addr::Addr;
+use alto_desk::desk_in_memory;
 use alto_doors::{Door, DoorFault, Doors, MemDoors, Side, TcpDoors, serve_door};
 use alto_http::MemLink;
 use alto_keeper::MemKeeper;
-use alto_rows::PlainRows;
+use alto_names::Epoch;
 use alto_serve::{End, FixedClock, Solo, serve_link};
+use row_chunks::Chunks;
 use std::alloc::{AllocError, Global};
 use std::io::{Read, Write};
 use std::net::TcpStream;
@@ -26,8 +27,8 @@ const MAP: &[u8] = br#"{"meta":{"vtag":{"resource-id":"metro","tag":"e1-1"}},"ne
 const CLOCK: FixedClock = FixedClock(100);
 
 /// The office over a new book.
-fn office(alloc: Global) -> Result<Solo<MemKeeper, PlainRows>, Fail> {
-    let desk: MemDesk = new_desk(alloc)?;
+fn office(alloc: Global) -> Result<Solo<MemKeeper, Chunks>, Fail> {
+    let desk = desk_in_memory(alloc, &Epoch::read(alloc, b"e1")?, 8)?;
     Ok(Solo::new(desk))
 }
 
