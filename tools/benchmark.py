@@ -13,15 +13,17 @@ time counts. Each try of imports has a new store; the other tries of a program a
 are short. A ratio is PROGRAM's time by that of the other program.
 
 growth: how far an import of one cost depends on the book: the time of one of 500 imports into each of three books, with its ratio
-to that into the smallest, and the memory of the process (VmRSS) with the largest book, and after 32 versions more. Where gdb is there,
-also the bytes that are allocated: of the store with its imports, and of one whose base has taken them in, with and without the texts of
-its maps.
+to that into the smallest (the versions by which the book came about, of 16,000 costs each, are forgotten before the clock starts), and
+the memory of the process (VmRSS) with the largest book, and after 32 versions more. Where gdb is there, also the bytes that are
+allocated: of the store with its imports, and of one whose base has taken them in; and of the latter's rows, with and without the texts
+of its maps. What else it has is the SQL library's: pages of the file, and a buffer that reading it left.
 
 opening: the seconds from the program's start to its first reply, over stores of an eighth, a quarter and a half of the imports and rows
 that a store keeps, and of all of them; the processor's seconds, which other work on the machine hardly changes; and the most memory that
 it took (VmHWM). Where the time and the memory of a row stay alike, opening grows straight.
 """
 import argparse
+import collections
 import contextlib
 import fcntl
 import os
@@ -45,6 +47,8 @@ MOMENT = re.compile(rb'"moment":[0-9]+')
 # Tries that take less than so many seconds in all are made again, up to so many.
 SHORT, MOST = 1, 50
 PIPE = 1 << 20
+# How many versions of a map a store keeps.
+WINDOW = 8
 BUFFER = bytearray(PIPE)
 
 
@@ -134,10 +138,29 @@ class Run:
         self.told.seek(0)
         return int(re.findall(rb"in use bytes +=\s+(\d+)", self.told.read())[-1]) / 2**20
 
+    def blocks(self):
+        """Counts the blocks of each size that glibc has handed out of the process's heap, by the headers before them. A large block
+        that is mapped alone isn't among them."""
+        with open(f"/proc/{self.process.pid}/maps", encoding="utf-8") as maps:
+            heap = next(line for line in maps if line.endswith("[heap]\n")).split()[0]
+        start, end = (int(edge, 16) for edge in heap.split("-"))
+        with open(f"/proc/{self.process.pid}/mem", "rb", 0) as memory:
+            memory.seek(start)
+            words = memoryview(memory.read(end - start)).cast("Q")
+        sizes, at = collections.Counter(), 0
+        while at + 1 < len(words):
+            size = words[at + 1] & ~7
+            behind = at + size // 8
+            if size < 32 or behind + 1 >= len(words):
+                break
+            sizes[size] += words[behind + 1] & 1
+            at = behind
+        return sizes
+
 
 def begun(program, folder):
     """Begins a store in a folder, and gives the folder."""
-    words = [program[0], "init", "x", "--epoch", "e1", "--window", "8"]
+    words = [program[0], "init", "x", "--epoch", "e1", "--window", str(WINDOW)]
     subprocess.run(words, cwd=folder, stdin=subprocess.DEVNULL, stdout=subprocess.DEVNULL, check=True)
     return folder
 
@@ -181,7 +204,8 @@ def print_growth(program, rounds):
     print(f"\n{'500 imports of one cost':<38}{'microseconds of one':>20}  ratio")
     smallest = None
     for count in workloads.BOOKS:
-        workload = workloads.Workload("", workloads.book(count), workloads.single_costs(500, count), imports=True)
+        setup = workloads.book(count) + workloads.single_costs(WINDOW, count, "before")
+        workload = workloads.Workload("", setup, workloads.single_costs(500, count), imports=True)
         one = min(list(tries(program, workload, rounds))[1:]) / 500
         smallest = smallest or one
         print(f"{f'into {count:,} costs':<38}{one * 1e6:>20.1f}{one / smallest:>7.2f}", flush=True)
@@ -205,11 +229,13 @@ def print_allocated(program, count):
         subprocess.run([program[0], "trim", "x", "--keep", "0"], cwd=folder, stdout=subprocess.DEVNULL, check=True)
         with Run(program, folder=folder) as run:
             maps = "metro", *(f"metro:cost:{metric}" for metric in workloads.METRICS)
-            text = sum(len(run.replies([workloads.get(f"/maps/{name}")])) for name in maps)
+            text = sum(len(run.replies([workloads.get(f"/maps/{name}")])) for name in maps) / 2**20
             based = run.allocated()
-    rows = based - text / 2**20
+            # Most blocks of this size are chunks of 256 rows: a base that is read is cut into them.
+            rows = max(size * blocks for size, blocks in run.blocks().items() if size > 2**14) / 2**20
     print(f"{'allocated':<38}{'MB':>20}  bytes a cost")
-    for name, size in (("with the imports", imported), ("in the base, with texts", based), ("in the base, without texts", rows)):
+    parts = ("with the imports", imported), ("in the base", based), ("its rows", rows), ("its rows and texts", rows + text)
+    for name, size in parts:
         print(f"{name:<38}{size:>20.1f}{size * 2**20 / count:>14.0f}", flush=True)
 
 

@@ -145,6 +145,6 @@ def largest_book(part=1):
     return book(ROWS // part - OTHER_ROWS, BATCHES // part)
 
 
-def single_costs(imports, count):
+def single_costs(imports, count, name="one"):
     """Imports of one cost each, at places spread over a book of so many costs."""
-    return [edits(f"one-{k}", [cost(k * count // imports, 1_000 + k)]) for k in range(imports)]
+    return [edits(f"{name}-{k}", [cost(k * count // imports, 1_000 + k)]) for k in range(imports)]
