@@ -1,8 +1,8 @@
 -- Runs of rows that lead to a key: what they tell of its value, and of later keys.
-use Rattle.std.proofs.Common.{◌≡◌, ◌<◌, ℕ, zero, suc, refl, ap, sym, ◌∙◌, arith, drop, get_or, length}
+use Rattle.std.proofs.Common.{◌≡◌, ◌<◌, ◌-◌, ℕ, zero, suc, refl, ap, sym, ◌∙◌, arith, drop, get_or, length}
 use Rattle.std.proofs.lemmas.Cmp.{tied_itself, nat_list_cmp_total}
 use Rattle.std.proofs.lemmas.List.Elements.{filter-append}
-use Rattle.std.specs.Prelude.{Bool, true, false, cond, not, List, [], ◌∷◌, ◌++◌, Some, None}
+use Rattle.std.specs.Prelude.{Bool, true, false, cond, not, List, [], ◌∷◌, ◌++◌, Some, None, slice_get}
 use Rattle.std.specs.Cmp.Lexicographic.{slice_cmp}
 use Rattle.std.specs.List.Sorted.{IsStrictlySortedBy}
 use Rattle.std.specs.Ordering.{is_eq, is_gt, nat_cmp}
@@ -14,7 +14,7 @@ use Rattle.alto_rows.specs.Order.{key_cmp, name_cmp}
 use Rattle.alto_rows.specs.Rows.{Rows, AreSorted, IsRunOf, rows_from, value_of}
 use Rattle.alto_rows.proofs.OrderLemmas.{key_cmp_itself, key_cmp_total, one_key}
 use Rattle.alto_rows.proofs.PlaceLemmas.{IsFound, rows_from-found}
-use Rattle.alto_rows.proofs.RowsLemmas.{past_first, past_lesser, same_key_back, sorted_left, greater_back, less_back, value_of-past}
+use Rattle.alto_rows.proofs.RowsLemmas.{past_first, past_lesser, same_key_back, sorted_left, sorted_rest, greater_back, less_back, value_of-past}
 use Rattle.alto_rows.proofs.RunLemmas.{AreFrom, from_rows_from, sorted_rows_from, value_of-rows_from}
 use Rattle.alto_maps.specs.Shape.{Name}
 use Rattle.cost_docs.specs.CostMap.{number_at}
@@ -39,6 +39,29 @@ found_at (first ∷ rows) at zero row within is same =
 found_at (first ∷ rows) at (suc place) row within is same =
     let below : IsFound rows at place = found_at rows at place row (omega arith) is same in
     record { front = first ∷ below.front; value = below.value; back = below.back; whole = ap (λ (more : Rows). first ∷ more) below.whole; place = ap suc below.place }
+
+-- ---- a run that is used up
+
+-- the first of sorted rows is before a key where the last is, and then none is at the key or behind it
+before_key : (first : Key × Value) (rows : Rows) (key : Key) (row : Key × Value) → AreSorted (first ∷ rows)
+    → Some row ≡ slice_get (first ∷ rows) (length rows) → key_cmp row.0 key ≡ Less
+    → (key_cmp first.0 key ≡ Less) × (rows_from (first ∷ rows) key ≡ [])
+before_key first [] key row s at less =
+    let same : row ≡ first = cc in
+    let low : key_cmp first.0 key ≡ Less = ap (λ (r : Key × Value). key_cmp r.0 key) (sym same) ∙ less in
+    (low, rw (less_back first.0 key low) refl)
+before_key first (next ∷ rows) key row s at less =
+    let below = before_key next rows key row (sorted_rest first (next ∷ rows) s) at less in
+    let low : key_cmp first.0 key ≡ Less = key_cmp_total.trans first.0 next.0 key (past_first first (next ∷ rows) s).0 below.0 in
+    (low, rw (less_back first.0 key low) below.1)
+
+-- so it is of the last row of a run
+pub none_behind : (rows : Rows) (key : Key) (row : Key × Value) → AreSorted rows → Some row ≡ slice_get rows (length rows - 1)
+    → key_cmp row.0 key ≡ Less → rows_from rows key ≡ []
+none_behind [] key row s at less = refl
+none_behind (first ∷ rows) key row s at less =
+    let place : length (first ∷ rows) - 1 ≡ length rows = omega arith in
+    (before_key first rows key row s (at ∙ ap (slice_get (first ∷ rows)) place) less).1
 
 -- ---- runs that lead to keys
 

@@ -1,5 +1,5 @@
 //! The costs in a metric from a source, found in runs of rows that lie together.
-ghost use Rattle.std.specs.Prelude.{◌≡◌, ◌≤◌, IfOk, drop, length, map};
+ghost use Rattle.std.specs.Prelude.{◌≡◌, ◌≤◌, [], true, IfOk, drop, length, map};
 ghost use Rattle.std.specs.List.Sorted.{IsSearchInRange, IsStrictlySortedBy};
 ghost use Rattle.std.specs.Cmp.Lexicographic.{slice_cmp};
 ghost use Rattle.std.specs.Ordering.{is_eq, nat_cmp, ordering_then};
@@ -101,7 +101,7 @@ impl<'a> Origin<'a> {
     }
 
     /// From which place on a run has the rows from a cost's key on. One comparison where the guess is the place of the
-    /// cost's own row, else one binary search.
+    /// cost's own row, two where the run ends before it, else one binary search.
     fn place(&self, run: &[(Key, Value)], dst: &PidName, guess: usize) -> usize
         requires { AreSorted run.now }
         ensures rows { drop result run.now ≡ rows_from run.now (key_to self.now dst.now) }
@@ -112,8 +112,22 @@ impl<'a> Origin<'a> {
                 return guess;
             }
         }
+        if self.is_used_up(run, dst) {
+            return run.len();
+        }
         match self.search(run, dst) {
             Ok(at) | Err(at) => at,
+        }
+    }
+
+    /// Whether the last row of a run stands before that of a cost, so that none is at it or behind. One comparison.
+    fn is_used_up(&self, run: &[(Key, Value)], dst: &PidName) -> bool
+        requires { AreSorted run.now }
+        ensures { result ≡ true → rows_from run.now (key_to self.now dst.now) ≡ [] }
+    {
+        match run.last() {
+            Some(row) => self.cmp(&row.0, dst).is_lt(),
+            None => true,
         }
     }
 
