@@ -169,7 +169,7 @@ fn edge_reply<R: RowStore>(
     let Some(rows) = graph.rows_at(j) else {
         unreachable!();
     };
-    let Some(keys) = graph.span(i, j) else {
+    let Some(keys) = graph.span(alloc, i, j)? else {
         let document = document_at(alloc, followed, resource, &**rows, j)?;
         return ok_reply(alloc, media_type(resource), document);
     };
@@ -178,7 +178,7 @@ fn edge_reply<R: RowStore>(
     };
     let patch = match followed.patch(resource, form, i, j) {
         Some(text) => text.to_vec(alloc)?,
-        None => patch_text(alloc, resource, form, &**before, &**rows, keys)?,
+        None => patch_text(alloc, resource, form, &**before, &**rows, &keys)?,
     };
     ok_reply(alloc, patch_type(form), patch)
 }

@@ -81,13 +81,13 @@ fn try_edge<R: RowStore>(
     let Some(rows) = graph.rows_at(j) else {
         unreachable!();
     };
-    let Some(keys) = graph.span(i, j) else {
+    let Some(keys) = graph.span(alloc, i, j)? else {
         return try_document(alloc, of, &**rows, trials);
     };
     let Some(before) = graph.rows_at(i) else {
         unreachable!();
     };
-    try_patches(alloc, of, &**before, &**rows, keys, trials)
+    try_patches(alloc, of, &**before, &**rows, &keys, trials)
 }
 
 /// Tries the edge from 0 to rows: the whole document.

@@ -158,7 +158,7 @@ fn patch_by<R: RowStore>(
 {
     let last = graph.reached();
     let from = last.saturating_sub(stride);
-    let Some(keys) = graph.span(from, last) else {
+    let Some(keys) = graph.kept_span(from, last) else {
         return Ok(None);
     };
     let Some(before) = graph.rows_at(from) else {

@@ -4,6 +4,7 @@ pub mod ShortcutLemmas
 pub mod StatusLemmas
 pub mod SpanLemmas
 pub mod LongestLemmas
+pub mod HalfLemmas
 pub mod StepLemmas
 pub mod PushLemmas
 pub mod GraphLaws

@@ -11,7 +11,7 @@ use Rattle.alto_rows.specs.Rows.{Rows}
 use Rattle.alto_rows.specs.declared.key.Key.{Key}
 use Rattle.tips_graph.specs.Graph.{GraphData, Push, AreSets, with_push, cut_at, first_of}
 use Rattle.tips_graph.specs.Keys.{key_set}
-use Rattle.tips_graph.specs.Shortcuts.{StepData, push_of, list_of, HasLists, HaveLists, before_kept, graph_with, Stands}
+use Rattle.tips_graph.specs.Shortcuts.{StepData, push_of, HasLists, HaveLists, before_kept, graph_with, Stands}
 use Rattle.tips_graph.specs.Sound.{IsSound}
 use Rattle.tips_graph.proofs.ShortcutLemmas.{list_more, list_fewer, stride_positive}
 
@@ -54,8 +54,8 @@ lists_more before steps step lists next = λ k d within. rw (map-append push_of 
     by true k d within earlier =
         let place : k < length steps = grind (arith, nat_tests) in
         subst (λ (this : StepData). HasLists before (map push_of steps ++ push_of step ∷ []) (before + k + 1) this) (sym (get_or-append steps (step ∷ []) d k place))
-        (λ stride is. list_more before (map push_of steps) (push_of step ∷ []) (before + k + 1) stride (list_of (get_or steps k d) stride)
-        (omega (arith, place, length-map steps push_of)) (lists k d place stride is))
+        (λ stride is keys kept. list_more before (map push_of steps) (push_of step ∷ []) (before + k + 1) stride keys
+        (omega (arith, place, length-map steps push_of)) (lists k d place stride is keys kept))
     by false k d within late =
         let place : length steps ≡ k = grind (arith, nat_tests, length-append steps (step ∷ [])) in
         subst (λ (n : ℕ). HasLists before (map push_of steps ++ push_of step ∷ []) (before + n + 1) (get_or (steps ++ step ∷ []) n d)) place
@@ -67,23 +67,27 @@ lists_fewer before n steps lists = λ k d within.
     let place : n + k < length steps = omega (arith, within, length-drop n steps) in
     let number : before + (n + k) + 1 ≡ before + n + k + 1 = omega arith in
     rw (get_or-drop n steps k d)
-    (λ stride is. list_fewer before n (map push_of steps) (map push_of (drop n steps)) (before + n + k + 1) stride (list_of (get_or steps (n + k) d) stride)
+    (λ stride is keys kept. list_fewer before n (map push_of steps) (map push_of (drop n steps)) (before + n + k + 1)
+    stride keys
     (ap (drop 1) (sym (drop-map push_of n steps)) ∙ drop-drop 1 n (map push_of steps))
-    (subst (λ (m : ℕ). HasLists before (map push_of steps) m (get_or steps (n + k) d)) number (lists (n + k) d place) stride is))
+    (subst (λ (m : ℕ). HasLists before (map push_of steps) m (get_or steps (n + k) d)) number (lists (n + k) d place)
+    stride is keys kept))
 
 -- without the first, and with another at the first that is left
 lists_cut : (before n : ℕ) (steps : List StepData) (first : StepData) → HaveLists before steps → HaveLists (before + n) (first ∷ drop (n + 1) steps)
 lists_cut before n steps first lists = by
   where
     by : HaveLists (before + n) (first ∷ drop (n + 1) steps)
-    by zero d within = λ stride is divides from. absurd (omega (arith, from, stride_positive stride is))
+    by zero d within = λ stride is keys kept divides from. absurd (omega (arith, from, stride_positive stride is))
     by (suc k) d within =
         let place : n + 1 + k < length steps = omega (arith, within, length-drop (n + 1) steps) in
         let number : before + (n + 1 + k) + 1 ≡ before + n + suc k + 1 = omega arith in
         rw (get_or-drop (n + 1) steps k d)
-        (λ stride is. list_fewer before n (map push_of steps) (push_of first ∷ map push_of (drop (n + 1) steps)) (before + n + suc k + 1) stride (list_of (get_or steps (n + 1 + k) d) stride)
+        (λ stride is keys kept. list_fewer before n (map push_of steps)
+        (push_of first ∷ map push_of (drop (n + 1) steps)) (before + n + suc k + 1) stride keys
         (sym (drop-map push_of (n + 1) steps))
-        (subst (λ (m : ℕ). HasLists before (map push_of steps) m (get_or steps (n + 1 + k) d)) number (lists (n + 1 + k) d place) stride is))
+        (subst (λ (m : ℕ). HasLists before (map push_of steps) m (get_or steps (n + 1 + k) d)) number
+        (lists (n + 1 + k) d place) stride is keys kept))
 
 -- ---- a push
 

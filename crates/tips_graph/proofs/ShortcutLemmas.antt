@@ -73,6 +73,16 @@ list_more before pushes more number stride keys within is = λ divides from.
     (sym (ap (take stride) (drop-append-le (number - stride - before) pushes more (omega arith))
     ∙ take-append-le stride (drop (number - stride - before) pushes) more (omega (arith, length-drop (number - stride - before) pushes))))
 
+-- the keys of two runs of pushes, one behind the other, are those of both
+pub keys_joined : (pushes : List Push) (start a b : ℕ)
+    → key_set (key_set (keys_of (take a (drop start pushes))) ++ key_set (keys_of (take b (drop (start + a) pushes))))
+    ≡ key_set (keys_of (take (a + b) (drop start pushes)))
+keys_joined pushes start a b =
+    key_set-append (keys_of (take a (drop start pushes))) (keys_of (take b (drop (start + a) pushes)))
+    ∙ ap key_set (sym (ap keys_of (take-add a b (drop start pushes))
+    ∙ flat_map-append (λ (push : Push). push.keys) (take a (drop start pushes)) (take b (drop a (drop start pushes)))
+    ∙ ap (λ (ps : List Push). keys_of (take a (drop start pushes)) ++ keys_of (take b ps)) (drop-drop a start pushes)))
+
 -- the list of an edge is the set of the keys of its halves
 pub list_doubled : (before : ℕ) (pushes : List Push) (number half : ℕ) (older newer keys : List Key) → IsStride half
     → IsListOfEdge before pushes (number - half) half older → IsListOfEdge before pushes number half newer
@@ -89,8 +99,5 @@ list_doubled before pushes number half older newer keys is first second made = �
     made divides from
     ∙ ap (λ (keys : List Key). key_set (keys ++ newer)) (earlier ∙ ap (λ (k : ℕ). key_set (keys_of (take half (drop k pushes)))) at-first)
     ∙ ap (λ (keys : List Key). key_set (key_set (keys_of (take half (drop start pushes))) ++ keys)) (later ∙ ap (λ (k : ℕ). key_set (keys_of (take half (drop k pushes)))) at-second)
-    ∙ key_set-append (keys_of (take half (drop start pushes))) (keys_of (take half (drop (start + half) pushes)))
-    ∙ ap key_set (sym (ap (λ (n : ℕ). keys_of (take n (drop start pushes))) twice
-    ∙ ap keys_of (take-add half half (drop start pushes))
-    ∙ flat_map-append (λ (push : Push). push.keys) (take half (drop start pushes)) (take half (drop half (drop start pushes)))
-    ∙ ap (λ (ps : List Push). keys_of (take half (drop start pushes)) ++ keys_of (take half ps)) (drop-drop half start pushes)))
+    ∙ keys_joined pushes start half half
+    ∙ ap (λ (n : ℕ). key_set (keys_of (take n (drop start pushes)))) (sym twice)

@@ -1,14 +1,14 @@
--- The keys of an edge that can be had are those that are kept for it at the number that it leads to.
+-- The keys of an edge that can be had are those of the pushes between, and so those of its list where it is kept.
 use Rattle.std.proofs.Common.{◌≡◌, ◌≢◌, ℕ, ◌+◌, ◌-◌, ◌%◌, ◌<◌, ◌≤◌, length, take, drop, refl, sym, ap, ◌∙◌, arith, suc, zero}
 use Rattle.std.proofs.lemmas.Bool.Decides.{nat_tests}
-use Rattle.std.specs.Prelude.{Bool, true, false, nat_lt, List, [], ◌∷◌, Option, Some, None, slice_get, if◌then◌else◌, IsTrue}
-use Rattle.std.specs.List.{flat_map}
+use Rattle.std.specs.Prelude.{Bool, true, false, nat_lt, List, [], ◌∷◌, Option, Some, None, IfSome, option_map, slice_get, if◌then◌else◌, IsTrue}
 use Rattle.alto_rows.specs.declared.key.Key.{Key}
 use Rattle.tips_graph.specs.Edges.{is_shape, edge_status}
-use Rattle.tips_graph.specs.Graph.{GraphData, Push, first_of, last_of, keeps, status_of, is_step_here, span_of}
+use Rattle.tips_graph.specs.Graph.{GraphData, Push, first_of, last_of, keeps, status_of, is_step_here, pushes_between, span_of}
 use Rattle.tips_graph.specs.Keys.{key_set}
 use Rattle.tips_graph.specs.Shortcuts.{StepData, HasLists, IsStride, list_of, before_kept}
 use Rattle.tips_graph.specs.Table.{IsPast}
+use Rattle.tips_graph.proofs.ShortcutLemmas.{keys_of}
 use Rattle.tips_graph.proofs.StatusLemmas.{here_by}
 use Rattle.tips_graph.specs.declared.status.EdgeStatus.{EdgeStatus}
 use Rattle.tips_graph.specs.declared.status.EdgeStatus.TheVariants.{Here}
@@ -76,17 +76,42 @@ chosen_here status i keys here some = rw here (positive i some)
     positive : (i : ℕ) → i ≢ 0 → (if nat_lt 0 i then keys else None) ≡ keys
     positive i some = grind (arith, nat_tests)
 
--- the keys of an edge that can be had are those that are kept for it
-pub span_at : (graph : GraphData) (i j : ℕ) (step : StepData) → length graph.kept ≤ graph.last → i ≢ 0 → status_of graph i j ≡ Here
-    → HasLists (before_kept graph) graph.kept j step → Some (list_of step (j - i)) ≡ span_of graph i j
-span_at graph i j step numbered some here lists =
+-- the keys of an edge that can be had are those of the pushes between
+pub span_is : (graph : GraphData) (i j : ℕ) → i ≢ 0 → status_of graph i j ≡ Here
+    → span_of graph i j ≡ Some (key_set (keys_of (pushes_between graph i j)))
+span_is graph i j some here = chosen_here (status_of graph i j) i _ here some
+
+-- and those of a list that is kept for it
+pub span_at : (graph : GraphData) (i j : ℕ) (step : StepData) (keys : List Key) → length graph.kept ≤ graph.last
+    → i ≢ 0 → status_of graph i j ≡ Here → HasLists (before_kept graph) graph.kept j step
+    → Some keys ≡ list_of step (j - i) → Some keys ≡ span_of graph i j
+span_at graph i j step keys numbered some here lists kept =
     let edge : IsStep graph i j = step_here graph i j some here in
     let first : first_of graph ≡ before_kept graph + 1 = first_is graph (omega (arith, edge.to, edge.shape.onward)) numbered in
     let place : j - (j - i) - before_kept graph ≡ i + 1 - first_of graph = omega (arith, first, edge.shape.onward, edge.from) in
     ap (λ (keys : List Key). Some keys)
-    (lists (j - i) edge.shape.stride edge.shape.divides (omega (arith, first, edge.shape.onward, edge.from))
-    ∙ ap (λ (k : ℕ). key_set (flat_map (λ (push : Push). push.keys) (take (j - i) (drop k graph.kept)))) place)
-    ∙ sym (chosen_here (status_of graph i j) i _ here some)
+    (lists (j - i) edge.shape.stride keys (sym kept) edge.shape.divides
+    (omega (arith, first, edge.shape.onward, edge.from))
+    ∙ ap (λ (k : ℕ). key_set (keys_of (take (j - i) (drop k graph.kept)))) place)
+    ∙ sym (span_is graph i j some here)
+
+-- as that of a single step is
+pub single_at : (graph : GraphData) (i j : ℕ) (step : StepData) → length graph.kept ≤ graph.last
+    → i ≢ 0 → status_of graph i j ≡ Here → HasLists (before_kept graph) graph.kept j step
+    → j ≡ i + 1 → list_of step (j - i) ≡ span_of graph i j
+single_at graph i j step numbered some here lists single =
+    let one : j - i ≡ 1 = omega (arith, single) in
+    let kept : list_of step (j - i) ≡ Some step.keys = ap (list_of step) one in
+    kept ∙ span_at graph i j step step.keys numbered some here lists (sym kept)
+
+-- so are those of a list that may be kept, where it is
+pub kept_span_at : {X : Type 0} (value : X → List Key) (list : Option X) (graph : GraphData) (i j : ℕ) (step : StepData)
+    → length graph.kept ≤ graph.last → i ≢ 0 → status_of graph i j ≡ Here
+    → HasLists (before_kept graph) graph.kept j step → option_map value list ≡ list_of step (j - i)
+    → IfSome list (λ keys. Some (value keys) ≡ span_of graph i j)
+kept_span_at value None graph i j step numbered some here lists kept = tt
+kept_span_at value (Some keys) graph i j step numbered some here lists kept =
+    span_at graph i j step (value keys) numbered some here lists kept
 
 -- a place within a list has an item
 some_at : (pushes : List Push) (k : ℕ) → k < length pushes → slice_get pushes k ≢ None

@@ -4,11 +4,12 @@ use Rattle.std.proofs.Math.ListN.{get_or-map}
 use Rattle.std.proofs.Math.Seq.{drop-append_seam}
 use Rattle.std.proofs.lemmas.Bool.Decides.{nat_tests}
 use Rattle.std.proofs.lemmas.List.{length-map}
+use Rattle.std.proofs.lemmas.Option.{same_Some}
 use Rattle.std.specs.Prelude.{Bool, true, false, List, [], ◌∷◌, ◌++◌, Option, Some, None, slice_get, if◌then◌else◌, IsTrue}
 use Rattle.alto_rows.specs.declared.key.Key.{Key}
 use Rattle.tips_graph.specs.Graph.{GraphData, Push, first_of, last_of, keeps}
 use Rattle.tips_graph.specs.Keys.{key_set}
-use Rattle.tips_graph.specs.Shortcuts.{StepData, push_of, list_of, IsStride, IsListOfEdge, HasLists, before_kept, graph_with, Stands}
+use Rattle.tips_graph.specs.Shortcuts.{StepData, push_of, list_of, IsStride, IsListOfEdge, IsListIfKept, HasLists, before_kept, graph_with, Stands}
 use Rattle.tips_graph.proofs.KeySetLemmas.{key_set-key_set}
 use Rattle.tips_graph.proofs.ShortcutLemmas.{at_strides, keys_of, halves, list_more, list_doubled}
 
@@ -90,30 +91,39 @@ pub record Doubles (graph : GraphData) (half : ℕ) (older : List Key) : Type 0 
   pub both : (push : Push) (newer keys : List Key) → IsListOfEdge (before_kept graph) (graph.kept ++ push ∷ []) (graph.last + 1) half newer
       → keys ≡ key_set (older ++ newer) → IsListOfEdge (before_kept graph) (graph.kept ++ push ∷ []) (graph.last + 1) (2 * half) keys
 
--- the list of half an edge to the next number is kept at its middle
-older_list : (window last : ℕ) (steps : List StepData) (half : ℕ) (step : StepData) → Stands window last steps → IsStride half → 2 * half ≤ length steps → 0 < half
-    → step ≡ get_or steps (length steps - half) step → IsListOfEdge (before_kept (graph_with window last steps)) (map push_of steps) (last + 1 - half) half (list_of step half)
-older_list window last steps half step stands stride room some at =
+-- what is kept at the middle of an edge to the next number is the list of its first half
+older_list : (window last : ℕ) (steps : List StepData) (half : ℕ) (step : StepData) (older : List Key)
+    → Stands window last steps → IsStride half → 2 * half ≤ length steps → 0 < half
+    → step ≡ get_or steps (length steps - half) step → Some older ≡ list_of step half
+    → IsListOfEdge (before_kept (graph_with window last steps)) (map push_of steps) (last + 1 - half) half older
+older_list window last steps half step older stands stride room some at kept =
     let count : length (map push_of steps) ≡ length steps = length-map steps push_of in
     lists_at (last - length steps) (before_kept (graph_with window last steps)) (map push_of steps) (last - length steps + (length steps - half) + 1) (last + 1 - half)
     (get_or steps (length steps - half) step) step (ap (λ (n : ℕ). last - n) (sym count)) (omega (arith, count, stands.sound.numbered, room)) (sym at)
-    (stands.lists (length steps - half) step (omega (arith, room, some))) half stride
+    (stands.lists (length steps - half) step (omega (arith, room, some))) half stride older (sym kept)
 
 -- where the next number ends an edge from a kept number, its list is made of two
-pub doubles : (window last : ℕ) (steps : List StepData) (graph : GraphData) (half : ℕ) (step : StepData) → graph_with window last steps ≡ graph → Stands window last steps
-    → IsStride half → 0 < half → (last + 1) % (2 * half) ≡ 0 → 2 * half ≤ length steps → step ≡ get_or steps (length steps - half) step → Doubles graph half (list_of step half)
-doubles window last steps graph half step is stands stride some divides room at = subst (λ (graph : GraphData). Doubles graph half (list_of step half)) is
+pub doubles : (window last : ℕ) (steps : List StepData) (graph : GraphData) (half : ℕ) (step : StepData)
+    (older : List Key) → graph_with window last steps ≡ graph → Stands window last steps
+    → IsStride half → 0 < half → (last + 1) % (2 * half) ≡ 0 → 2 * half ≤ length steps
+    → step ≡ get_or steps (length steps - half) step → Some older ≡ list_of step half → Doubles graph half older
+doubles window last steps graph half step older is stands stride some divides room at kept =
+    subst (λ (graph : GraphData). Doubles graph half older) is
     (let this : GraphData = graph_with window last steps in
     let count : length (map push_of steps) ≡ length steps = length-map steps push_of in
     let numbered : length (map push_of steps) ≤ last = stands.sound.numbered in
     let both : ((last + 1) % half ≡ 0) × ((last + 1 - half) % half ≡ 0) = halves half stride (last + 1) divides (omega (arith, room, count, numbered)) in
-    let first : IsListOfEdge (before_kept this) (map push_of steps) (last + 1 - half) half (list_of step half) = older_list window last steps half step stands stride room some at in
+    let first : IsListOfEdge (before_kept this) (map push_of steps) (last + 1 - half) half older =
+    older_list window last steps half step older stands stride room some at kept in
     record {
-      older_set = set_again (list_of step half) (keys_of (take half (drop (last + 1 - half - half - before_kept this) (map push_of steps)))) (first both.1 (omega (arith, room, count, numbered)));
+      older_set =
+          set_again older (keys_of (take half (drop (last + 1 - half - half - before_kept this) (map push_of steps))))
+          (first both.1 (omega (arith, room, count, numbered)));
       newer_set = λ (push : Push) (newer : List Key) second. set_again newer (keys_of (take half (drop (last + 1 - half - before_kept this) (map push_of steps ++ push ∷ [])))) (second both.0 (omega (arith, room, count, numbered)));
       both = λ (push : Push) (newer keys : List Key) second made.
-          list_doubled (before_kept this) (map push_of steps ++ push ∷ []) (last + 1) half (list_of step half) newer keys stride
-          (list_more (before_kept this) (map push_of steps) (push ∷ []) (last + 1 - half) half (list_of step half) (omega (arith, room, count, numbered, some)) first)
+          list_doubled (before_kept this) (map push_of steps ++ push ∷ []) (last + 1) half older newer keys stride
+          (list_more (before_kept this) (map push_of steps) (push ∷ []) (last + 1 - half) half older
+          (omega (arith, room, count, numbered, some)) first)
           second (λ _ _. made);
     })
 
@@ -126,8 +136,18 @@ list_one before pushes push number is set = λ divides from.
     ∙ ap (λ (left : List Push). key_set (keys_of (take 1 left))) (drop-append_seam pushes (push ∷ []))
     ∙ ap key_set (append-nil push.keys) ∙ set)
 
--- a step that has each list
-pub all_lists : (before : ℕ) (pushes : List Push) (number : ℕ) (step : StepData) → IsListOfEdge before pushes number 1 step.keys
-    → IsListOfEdge before pushes number 2 step.twos → IsListOfEdge before pushes number 4 step.fours → IsListOfEdge before pushes number 8 step.eights
-    → IsListOfEdge before pushes number 16 step.sixteens → HasLists before pushes number step
-all_lists before pushes number step = at_strides (λ stride. IsListOfEdge before pushes number stride (list_of step stride))
+-- a list that is kept for sure
+pub list_kept : (before : ℕ) (pushes : List Push) (number stride : ℕ) (keys : List Key)
+    → IsListOfEdge before pushes number stride keys → IsListIfKept before pushes number stride (Some keys)
+list_kept before pushes number stride keys is =
+    λ list same. subst (IsListOfEdge before pushes number stride) (same_Some keys list same) is
+
+-- a step that keeps lists of its edges
+pub all_lists : (before : ℕ) (pushes : List Push) (number : ℕ) (step : StepData)
+    → IsListOfEdge before pushes number 1 step.keys
+    → IsListIfKept before pushes number 2 step.twos → IsListIfKept before pushes number 4 step.fours
+    → IsListIfKept before pushes number 8 step.eights → IsListIfKept before pushes number 16 step.sixteens
+    → HasLists before pushes number step
+all_lists before pushes number step one =
+    at_strides (λ stride. IsListIfKept before pushes number stride (list_of step stride))
+    (list_kept before pushes number 1 step.keys one)

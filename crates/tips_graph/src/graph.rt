@@ -1,21 +1,28 @@
-ghost use Rattle.std.specs.Prelude.{◌≡◌, ◌≤◌, ◌<◌, ◌+◌, ◌-◌, ◌*◌, ◌^◌, ◌∷◌, ◌++◌, [], IfOk, IfSome, map, option_copied};
-ghost use Rattle.std.specs.Prelude.{option_map, slice_get, None, if◌then◌else◌, IsTrue};
+ghost use Rattle.std.specs.Prelude.{◌≡◌, ◌≤◌, ◌<◌, ◌+◌, ◌-◌, ◌*◌, ◌^◌, ◌∷◌, ◌++◌, [], IfOk, IfSome, map};
+ghost use Rattle.std.specs.Prelude.{option_copied, option_map, slice_get, None, Some, if◌then◌else◌, IsTrue};
 ghost use Rattle.std.specs.Arc.{arc_value};
+ghost use Rattle.std.specs.Cow.{cow_slice_items};
 ghost use Rattle.tips_graph.specs.Edges.{recommended_edge};
 ghost use Rattle.tips_graph.specs.Graph.{Push, graph_of, graph_from, with_push, cut_at, first_of, last_of, keeps};
 ghost use Rattle.tips_graph.specs.Graph.{span_of, status_of};
 ghost use Rattle.tips_graph.specs.Graph as spec;
 ghost use Rattle.tips_graph.specs.Keys.{key_set};
-ghost use Rattle.tips_graph.specs.Shortcuts.{push_of, IsStride, IsListOfEdge, HasLists, before_kept};
+ghost use Rattle.tips_graph.specs.Shortcuts.{push_of, IsStride, IsListIfKept, HasLists, before_kept};
 ghost use Rattle.tips_graph.specs.Sound.{IsSound};
+ghost use Rattle.tips_graph.specs.declared.status.EdgeStatus.TheVariants.{Here};
 
 use crate::keys::{distinct_keys, merged};
 use crate::status::{EdgeStatus, edge_status, longest_stride};
 use crate::step::Step;
 use alto_rows::{Key, RowStore};
 use std::alloc::{AllocError, Global};
+use std::borrow::CowSlice;
 use std::marker::Model;
 use std::sync::Arc;
+
+/// The keys of a longer edge are kept where those of its halves are no more together: what is kept costs memory, and
+/// the push that forgets its number drops it. So at most half as many keys of an edge are surely kept.
+const MOST_KEPT: usize = 1024;
 
 /// The kept part of the updates graph of one resource (RFC 9569, section 3). It never changes: a push makes another,
 /// which shares what both keep. A contract sees the window, the last number, and the kept pushes.
@@ -67,8 +74,7 @@ impl<R: RowStore> Graph<R> {
     /// the rows and all that it keeps of this graph.
     ///
     /// Costs n comparisons of the n keys where they rise, else n log n, and their copies; a comparison and a copy for
-    /// each key of the longer edges that end at the number; and one pointer for each kept number. A key of a push is in
-    /// five lists at most, one for each stride.
+    /// each key of the longer edges with few keys that end at the number; and one pointer for each kept number.
     pub fn push(&self, alloc: Global, rows: &Arc<R>, keys: &[Key]) -> Result<Graph<R>, AllocError>
         requires { self.now.last < 2 ^ 63 - 1 }
         ensures { IfOk result (λ graph. graph
@@ -147,12 +153,29 @@ impl<R: RowStore> Graph<R> {
     }
 
     /// The distinct keys that lead from one version to another, in their order, `None` exactly where that edge can't be
-    /// had or leads from 0. They are kept: none is copied.
-    pub fn span(&self, i: u64, j: u64) -> Option<&[Key]>
-        ensures { option_map (λ keys. keys.now) result ≡ span_of self.now i j }
+    /// had or leads from 0. Those of a single step are kept, as few of a longer edge are, and aren't copied. Else they
+    /// are merged from those of its halves: at most four comparisons and copies for each key of the pushes between.
+    pub fn span(
+        &self,
+        alloc: Global,
+        i: u64,
+        j: u64,
+    ) -> Result<Option<CowSlice<'_, Key>>, AllocError>
+        ensures { IfOk result (λ keys. option_map cow_slice_items keys ≡ span_of self.now i j) }
     {
         match self.status(i, j) {
-            EdgeStatus::Here if 0 < i => Some(self.step_to(j)?.list(j - i)),
+            EdgeStatus::Here if 0 < i => Ok(Some(self.edge_keys(alloc, i, j)?)),
+            _ => Ok(None),
+        }
+    }
+
+    /// The distinct keys of an edge as `span` gives them, where they are kept, as those of a single step are.
+    pub fn kept_span(&self, i: u64, j: u64) -> Option<&[Key]>
+        ensures keys { IfSome result (λ keys. Some keys.now ≡ span_of self.now i j) }
+        ensures single { j ≡ i + 1 → option_map (λ keys. keys.now) result ≡ span_of self.now i j }
+    {
+        match self.status(i, j) {
+            EdgeStatus::Here if 0 < i => self.step_to(j)?.list(j - i),
             _ => None,
         }
     }
@@ -187,6 +210,24 @@ impl<R: RowStore> Graph<R> {
         Some(step)
     }
 
+    /// The distinct keys of an edge between versions that can be had: those that are kept, or merged from its halves.
+    fn edge_keys(&self, alloc: Global, i: u64, j: u64) -> Result<CowSlice<'_, Key>, AllocError>
+        requires version { 0 < i }
+        requires here { status_of self.now i j ≡ Here }
+        ensures { IfOk result (λ keys. Some (cow_slice_items keys) ≡ span_of self.now i j) }
+    {
+        let Some(step) = self.step_to(j) else {
+            unreachable!();
+        };
+        if let Some(keys) = step.list(j - i) {
+            return Ok(CowSlice::Borrowed(keys));
+        }
+        let middle = i + (j - i) / 2;
+        let older = self.edge_keys(alloc, i, middle)?;
+        let newer = self.edge_keys(alloc, middle, j)?;
+        Ok(CowSlice::Owned(merged(alloc, &older, &newer)?))
+    }
+
     /// What the next push keeps: its rows, its distinct keys, and the lists of the longer edges that end at it.
     fn next_step(&self, alloc: Global, rows: &Arc<R>, keys: &[Key]) -> Result<Step<R>, AllocError>
         requires { self.now.last < 2 ^ 63 - 1 }
@@ -197,10 +238,10 @@ impl<R: RowStore> Graph<R> {
     {
         let rows = Arc::try_clone(rows)?;
         let keys = distinct_keys(alloc, keys)?;
-        let twos = self.doubled(alloc, 1, &keys)?;
-        let fours = self.doubled(alloc, 2, &twos)?;
-        let eights = self.doubled(alloc, 4, &fours)?;
-        let sixteens = self.doubled(alloc, 8, &eights)?;
+        let twos = self.doubled(alloc, 1, Some(&keys))?;
+        let fours = self.doubled(alloc, 2, twos.as_deref())?;
+        let eights = self.doubled(alloc, 4, fours.as_deref())?;
+        let sixteens = self.doubled(alloc, 8, eights.as_deref())?;
         Ok(Step {
             rows,
             keys,
@@ -211,23 +252,39 @@ impl<R: RowStore> Graph<R> {
         })
     }
 
-    /// The list of the edge by `2 * half` to the next push, from the list of its later half. It is empty where there is
-    /// no such edge from a kept number. One comparison a key.
-    fn doubled(&self, alloc: Global, half: u64, newer: &[Key]) -> Result<Vec<Key>, AllocError>
+    /// The list of the edge by `2 * half` to the next push, from the list of its later half. It is `None` where no such
+    /// edge begins at a kept number, and where the halves have many keys. One comparison a key.
+    fn doubled(
+        &self,
+        alloc: Global,
+        half: u64,
+        newer: Option<&[Key]>,
+    ) -> Result<Option<Vec<Key>>, AllocError>
         requires half { IsStride half }
         requires double { IsStride (2 * half) }
         requires room { self.now.last < 2 ^ 63 - 1 }
         ensures sound { IsSound self.now }
         ensures list { (push : Push)
-            → IsListOfEdge (before_kept self.now) (self.now.kept ++ push ∷ []) (self.now.last + 1) half newer.now
-            → IfOk result (λ keys. IsListOfEdge
-            (before_kept self.now) (self.now.kept ++ push ∷ []) (self.now.last + 1) (2 * half) keys.items) }
+            → IsListIfKept (before_kept self.now) (self.now.kept ++ push ∷ []) (self.now.last + 1) half
+            (option_map (λ keys. keys.now) newer.entry)
+            → IfOk result (λ list. IsListIfKept
+            (before_kept self.now) (self.now.kept ++ push ∷ []) (self.now.last + 1) (2 * half)
+            (option_map (λ keys. keys.items) list)) }
     {
         let kept = self.kept.len() as u64;
         if (self.last + 1) % (2 * half) != 0 || kept < 2 * half {
-            return Ok(Vec::new(alloc));
+            return Ok(None);
         }
-        merged(alloc, self.kept[(kept - half) as usize].list(half), newer)
+        let Some(older) = self.kept[(kept - half) as usize].list(half) else {
+            return Ok(None);
+        };
+        let Some(newer) = newer else {
+            return Ok(None);
+        };
+        if MOST_KEPT < older.len() + newer.len() {
+            return Ok(None);
+        }
+        Ok(Some(merged(alloc, older, newer)?))
     }
 }
 
@@ -238,10 +295,10 @@ fn first_step<R: RowStore>(alloc: Global, rows: &Arc<R>) -> Result<Step<R>, Allo
     Ok(Step {
         rows: Arc::try_clone(rows)?,
         keys: Vec::new(alloc),
-        twos: Vec::new(alloc),
-        fours: Vec::new(alloc),
-        eights: Vec::new(alloc),
-        sixteens: Vec::new(alloc),
+        twos: None,
+        fours: None,
+        eights: None,
+        sixteens: None,
     })
 }
 

@@ -6,7 +6,8 @@
 //!            (a snapshot)                   ●──▶●──▶●──▶ ··· ──▶●──▶●──▶●──▶ ○ awaited
 //!                                           each step: the keys that were written
 //!
-//!   Edges that lead further, by 2, 4, 8 or 16 from a number that it divides, have their keys merged when they end:
+//!   Edges that lead further, by 2, 4, 8 or 16 from a number that it divides, have the keys of their halves, merged:
+//!   few of them when the edge ends, and more when they are asked for.
 //!
 //!         8 ─▶ 9 ─▶ 10 ─▶ 11 ─▶ 12 ─▶ 13 ─▶ 14 ─▶ 15 ─▶ 16
 //!         ╰────────▶╰──────────▶╰──────────▶╰──────────▶

@@ -2,6 +2,7 @@
 use Rattle.std.proofs.Common.{◌≡◌, Some, ap, sym, ◌∙◌}
 use Rattle.std.proofs.lemmas.Result.{IfOk-weaker}
 use Rattle.std.specs.Arc.{arc_value}
+use Rattle.std.specs.Cow.{cow_slice_items}
 use Rattle.serde_json.specs.Written.{compact_text}
 use Rattle.alto_book.specs.Walks.{content_data, patch}
 use Rattle.alto_replies.specs.Replies.{ok_reply}
@@ -34,8 +35,8 @@ document_at-requires-clause-number g c =
     ap Some (ap g.R.RowStore.rows c.deref.ensures)
     ∙ (c.in-Some.ensures ∙ ap (λ (graph : GraphData). rows_at graph c.args.j) c.graph-graph.ensures)
 
-pub returns-in_default-span-clause-reply : goal.returns-in_default-span-clause-reply
-returns-in_default-span-clause-reply g c =
+pub returns-in_default-2-clause-reply : goal.returns-in_default-2-clause-reply
+returns-in_default-2-clause-reply g c =
     IfOk-weaker c.ok_reply.result _ _
     (λ reply made book is.
     let here = here_too _ _ _ _ c.args.i c.args.j c.requires.1 is c.requires.2 in
@@ -43,13 +44,13 @@ returns-in_default-span-clause-reply g c =
     (c.in-Some.ensures ∙ ap (λ (graph : GraphData). rows_at graph c.args.j) c.graph-graph.ensures) in
     made ∙ rw (c.media_type.ensures, c.in_ok-document.ensures)
     (whole_document _ _ _ c.args.form _ _ _ is here (ap g.R.RowStore.rows c.deref.ensures ∙ rows)
-    (c.in_default-span.ensures ∙ ap (λ (graph : GraphData). span_of graph c.args.i c.args.j) c.graph-graph.ensures)))
+    ((rw c.in_default-2.is at c.in_ok-keys.ensures) ∙ ap (λ (graph : GraphData). span_of graph c.args.i c.args.j) c.graph-graph.ensures)))
     c.ok_reply.ensures.reply
 
 pub unreachable-requires-in_default-rows_at : goal.unreachable-requires-in_default-rows_at
 unreachable-requires-in_default-rows_at g c =
     let low = low_of_span _ _ _ _ _ _ c.requires.1
-    (c.in-Some-span.ensures ∙ ap (λ (graph : GraphData). span_of graph c.args.i c.args.j) c.graph-graph.ensures) in
+    ((rw c.in-Some-2.is at c.in_ok-keys.ensures) ∙ ap (λ (graph : GraphData). span_of graph c.args.i c.args.j) c.graph-graph.ensures) in
     rows_began _ _ _ _ _ c.requires.1 c.requires.2 low
     (c.in_default-rows_at.ensures ∙ ap (λ (graph : GraphData). rows_at graph c.args.i) c.graph-graph.ensures)
 
@@ -58,7 +59,7 @@ patch_text-requires g c =
     let rows = rows_here _ _ _ _ _ _ c.requires.1 c.requires.2
     (c.in-Some.ensures ∙ ap (λ (graph : GraphData). rows_at graph c.args.j) c.graph-graph.ensures) in
     let low = low_of_span _ _ _ _ _ _ c.requires.1
-    (c.in-Some-span.ensures ∙ ap (λ (graph : GraphData). span_of graph c.args.i c.args.j) c.graph-graph.ensures) in
+    ((rw c.in-Some-2.is at c.in_ok-keys.ensures) ∙ ap (λ (graph : GraphData). span_of graph c.args.i c.args.j) c.graph-graph.ensures) in
     let before = rows_begin _ _ _ _ _ _ c.requires.1 c.requires.2 low
     (c.in-Some-rows_at.ensures ∙ ap (λ (graph : GraphData). rows_at graph c.args.i) c.graph-graph.ensures) in
     let good = rows_good _ _ _ _ _ _ c.requires.1 c.requires.2 (ap g.R.RowStore.rows c.deref-in-None-2.ensures ∙ rows) in
@@ -66,17 +67,19 @@ patch_text-requires g c =
       good_before = rows_good_before _ _ _ _ _ c.requires.1 (ap g.R.RowStore.rows c.deref-in-None.ensures ∙ before);
       good = good.0;
       declared = good.1;
-      rising = span_rises c.graph-graph.result.now c.args.i c.args.j _ c.in-Some-span.ensures;
+      rising =
+          span_rises c.graph-graph.result.now c.args.i c.args.j _
+          (ap Some c.deref-in-None-3.ensures.value ∙ (rw c.in-Some-2.is at c.in_ok-keys.ensures));
     }
 
 pub returns-clause-reply : goal.returns-clause-reply
 returns-clause-reply g c =
     let earlier = g.R.RowStore.rows (arc_value c.in-Some-rows_at.before.now) in
     let later = g.R.RowStore.rows (arc_value c.in-Some.rows.now) in
-    let keys = c.in-Some-span.keys.now in
+    let keys = cow_slice_items c.in-Some-2.keys in
     let from = c.in-Some-rows_at.ensures ∙ ap (λ (graph : GraphData). rows_at graph c.args.i) c.graph-graph.ensures in
     let to = c.in-Some.ensures ∙ ap (λ (graph : GraphData). rows_at graph c.args.j) c.graph-graph.ensures in
-    let span = c.in-Some-span.ensures ∙ ap (λ (graph : GraphData). span_of graph c.args.i c.args.j) c.graph-graph.ensures in
+    let span = (rw c.in-Some-2.is at c.in_ok-keys.ensures) ∙ ap (λ (graph : GraphData). span_of graph c.args.i c.args.j) c.graph-graph.ensures in
     let text : c.match-patch.patch.items ≡ compact_text (content_data (patch c.args.form c.args.resource.now earlier later keys)) =
     elim c.match-patch.branch [
       | in-Some-patch+in_ok-patch-in-Some-patch w ↦
@@ -84,7 +87,9 @@ returns-clause-reply g c =
           (w.in_ok-patch-in-Some-patch.ensures.items_if_clones_equal (λ a b same. same)
           ∙ (rw w.in-Some-patch.is at c.patch.ensures) earlier later keys (sym from) (sym to) (sym span))
       | in-None+in_ok-patch-in-None w ↦
-          rw w.patch-is (rw (w.deref-in-None.ensures, w.deref-in-None-2.ensures) at w.in_ok-patch-in-None.ensures)
+          rw w.patch-is
+          (rw (w.deref-in-None.ensures, w.deref-in-None-2.ensures, w.deref-in-None-3.ensures.value)
+          at w.in_ok-patch-in-None.ensures)
     ] in
     IfOk-weaker c.ok_reply-2.result _ _
     (λ reply made book is.

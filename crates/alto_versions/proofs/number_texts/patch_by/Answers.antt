@@ -6,7 +6,7 @@ use Rattle.alto_versions.proofs.number_texts.patch_by.Goals as goal
 
 pub merge_text-requires-clause-rising : goal.merge_text-requires-clause-rising
 merge_text-requires-clause-rising g c =
-    span_rises c.args.graph.now c.saturating_sub-from.result c.reached-last.result _ c.in-Some.ensures
+    span_rises c.args.graph.now c.saturating_sub-from.result c.reached-last.result _ c.in-Some.ensures.keys
 
 pub operations_text-requires-clause-good_before : goal.operations_text-requires-clause-good_before
 operations_text-requires-clause-good_before g c =
@@ -15,4 +15,4 @@ operations_text-requires-clause-good_before g c =
 
 pub operations_text-requires-clause-rising : goal.operations_text-requires-clause-rising
 operations_text-requires-clause-rising g c =
-    span_rises c.args.graph.now c.saturating_sub-from.result c.reached-last.result _ c.in-Some.ensures
+    span_rises c.args.graph.now c.saturating_sub-from.result c.reached-last.result _ c.in-Some.ensures.keys
