@@ -1,6 +1,6 @@
 -- The first rule that an edit breaks is of its network, of its PIDs, or its own.
 use Rattle.std.proofs.Common.{◌≡◌, refl, ap, sym, ◌∙◌}
-use Rattle.std.specs.Prelude.{ℕ, Bool, true, false, cond, List, [], ◌∷◌, Option, Some}
+use Rattle.std.specs.Prelude.{ℕ, Bool, true, false, not, ◌||◌, cond, List, [], ◌∷◌, Option, Some}
 use Rattle.std.specs.List.{list_any}
 use Rattle.alto_rows.specs.declared.key.Key.TheVariants as key
 use Rattle.alto_rows.specs.Rows.{Rows, has_row}
@@ -9,7 +9,8 @@ use Rattle.alto_edits.specs.declared.edit.Edit.TheVariants as edit
 use Rattle.alto_edits.specs.declared.rule.Rule.{Rule}
 use Rattle.alto_edits.specs.declared.rule.Rule.TheVariants as rule
 use Rattle.alto_edits.specs.Rules.{Check, broken_rule, first_broken, in_net, with_pids, lacks}
-use Rattle.alto_rules.specs.Parts.{edit_net, edit_pids, own_checks}
+use Rattle.alto_rules.specs.Origin.{IsDeclared}
+use Rattle.alto_rules.specs.Parts.{edit_net, edit_pids, next_cost_checks, own_checks, room_check}
 
 -- the first check, or else those behind it
 pub first_check : (broken : Rule) (b : Bool) (rest : List Check) → first_broken ((broken, b) ∷ rest) ≡ cond b (Some broken) (first_broken rest)
@@ -77,3 +78,17 @@ of_pid_rule rows of other h k = rw (broken_in_turn rows of other, h, k) refl
 pub of_own_rule : (rows : Rows) (of : Edit) → ((net : List ℕ) → of ≡ edit.NetAdd net → ⊥) → has_row rows (key.Net (edit_net of)) ≡ true
     → list_any (λ pid. lacks rows (key.Pid (edit_net of) pid)) (edit_pids of) ≡ false → first_broken (own_checks rows of) ≡ broken_rule rows of
 of_own_rule rows of other h k = rw (broken_in_turn rows of other, h, k) refl
+
+-- of a cost that is put where its network, its metric and its source are declared, the first that holds
+pub next_cost_rule : (rows : Rows) (of : Edit) (net metric source destination : List ℕ) (cost : ℕ)
+    → of ≡ edit.CostPut net metric source destination cost
+    → IsDeclared rows (record { net = net; metric = metric; source = source })
+    → first_broken (next_cost_checks rows net metric source destination) ≡ broken_rule rows of
+unfolding broken_rule
+next_cost_rule rows of net metric source destination cost is declared =
+    rw (is, declared.0, declared.1, declared.2) (by (has_row rows (key.Pid net destination)))
+  where
+    by : (b : Bool) → first_broken ((rule.G6, not b) ∷ room_check rows net metric source destination ∷ [])
+        ≡ first_broken ((rule.G6, not b || false) ∷ room_check rows net metric source destination ∷ [])
+    by true = refl
+    by false = refl

@@ -6,8 +6,10 @@ pub mod OwnerLemmas
 pub mod PickLemmas
 pub mod TakeLemmas
 pub mod CheckLemmas
+pub mod NextRunLemmas
 pub mod KeptLemmas
 pub mod WithdrawLemmas
 pub mod VersionLemmas
 pub mod CompileLemmas
 pub mod DraftedLemmas
+pub mod OriginLemmas

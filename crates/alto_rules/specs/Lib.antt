@@ -1,5 +1,6 @@
 pub mod Parts
 pub mod Draft
+pub mod Origin
 pub mod Index
 pub mod Sizes
 pub mod Owners

@@ -88,6 +88,18 @@ has_one_write (edit.MetricDrop net metric) = false
 has_one_write (edit.PrefixPut net pid prefix) = false
 has_one_write _ = true
 
+-- the check that a cost is known, or there is room for it
+abbrev pub room_check : Rows → List ℕ → List ℕ → List ℕ → List ℕ → Check
+room_check rows net metric source destination = (
+  rule.G12,
+  lacks rows (key.Cost net metric source destination) && nat_le 262144 (count_in rows (span.CostsIn net metric)),
+)
+
+-- the checks of a cost that is put where its network, its metric and its source are declared
+abbrev pub next_cost_checks : Rows → List ℕ → List ℕ → List ℕ → List ℕ → List Check
+next_cost_checks rows net metric source destination =
+    (rule.G6, lacks rows (key.Pid net destination)) ∷ room_check rows net metric source destination ∷ []
+
 -- the checks of an edit besides those of its network and its PIDs
 abbrev pub own_checks : Rows → Edit → List Check
 own_checks rows (edit.NetAdd net) =
@@ -102,10 +114,12 @@ own_checks rows (edit.MetricAdd net metric) =
 own_checks rows (edit.MetricDrop net metric) = (rule.G11, lacks rows (key.Metric net metric)) ∷ []
 own_checks rows (edit.CostPut net metric source destination cost) =
     (rule.G11, lacks rows (key.Metric net metric))
-    ∷ (rule.G12, lacks rows (key.Cost net metric source destination) && nat_le 262144 (count_in rows (span.CostsIn net metric)))
+    ∷ room_check rows net metric source destination
     ∷ []
 own_checks rows (edit.CostDel net metric source destination) =
-    (rule.G11, lacks rows (key.Metric net metric)) ∷ (rule.G13, lacks rows (key.Cost net metric source destination)) ∷ []
+    (rule.G11, lacks rows (key.Metric net metric))
+    ∷ (rule.G13, lacks rows (key.Cost net metric source destination))
+    ∷ []
 own_checks rows (edit.PropDel net entity name) = (rule.G13, lacks rows (key.Prop net entity name)) ∷ []
 own_checks rows (edit.AneAdd net ane) = (rule.G14, has_row rows (key.Ane net ane)) ∷ []
 own_checks rows (edit.AneSet net ane name number) = (rule.G15, lacks rows (key.Ane net ane)) ∷ []

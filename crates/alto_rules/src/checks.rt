@@ -6,12 +6,13 @@ ghost use Rattle.alto_edits.specs.declared.rule.Rule.TheVariants as rule;
 ghost use Rattle.alto_edits.specs.Rules.{broken_rule, entity_pids, first_broken, lacks};
 ghost use Rattle.alto_edits.specs.Writes.{is_free};
 ghost use Rattle.alto_rules.specs.Draft.{drafted_rows};
-ghost use Rattle.alto_rules.specs.Parts.{edit_net, edit_pids, own_checks};
+ghost use Rattle.alto_rules.specs.Origin.{LastCostIsDeclared};
+ghost use Rattle.alto_rules.specs.Parts.{edit_net, edit_pids, next_cost_checks, own_checks};
 ghost use Rattle.alto_rules.specs.Sizes.{is_full};
 
 use crate::counted::counted_of;
 use crate::draft::Draft;
-use crate::keys::{ane_key, metric_key, net_key, pid_key};
+use crate::keys::{ane_key, cost_key, metric_key, net_key, pid_key};
 use crate::parts::{edit_key, edit_net};
 use alto_addr::Prefix;
 use alto_edits::{Edit, Rule};
@@ -35,8 +36,46 @@ const MOST_METRICS: usize = 8;
 const MOST_COSTS: usize = 262_144;
 
 impl<'a, R: RowStore> Draft<'a, R> {
-    /// The first rule that the edit breaks in the rows after the writes. Some searches.
+    /// The first rule that the edit breaks in the rows after the writes. Some searches for each thing that it names,
+    /// but none for the network, the metric and the source of a cost that is put next after one that has the same.
     pub fn broken_rule(&self, edit: &Edit) -> Result<Option<Rule>, AllocError>
+        requires { LastCostIsDeclared self.now }
+        ensures { IfOk result (λ broken. broken ≡ broken_rule (drafted_rows self.now) edit.now) }
+    {
+        match edit {
+            Edit::CostPut {
+                net,
+                metric,
+                source,
+                destination,
+                ..
+            } if self.last_origin(net, metric, source).is_some() => {
+                self.next_cost_rule(net, metric, source, destination)
+            }
+            _ => self.searched_rule(edit),
+        }
+    }
+
+    /// The first rule that a cost breaks which is put where its network, its metric and its source are declared.
+    fn next_cost_rule(
+        &self,
+        net: &NetName,
+        metric: &Metric,
+        source: &PidName,
+        destination: &PidName,
+    ) -> Result<Option<Rule>, AllocError>
+        ensures { IfOk result (λ broken. broken ≡ first_broken
+            (next_cost_checks (drafted_rows self.now) net.now metric.now source.now destination.now)) }
+    {
+        if self.lacks_pid(net, destination)? {
+            return Ok(Some(Rule::G6));
+        }
+        let key = cost_key(net, metric, source, destination)?;
+        self.cost_room_rule(&key)
+    }
+
+    /// The first rule that the edit breaks, by a search for each thing that it names.
+    fn searched_rule(&self, edit: &Edit) -> Result<Option<Rule>, AllocError>
         ensures { IfOk result (λ broken. broken ≡ broken_rule (drafted_rows self.now) edit.now) }
     {
         if let Edit::NetAdd { .. } = edit {
@@ -231,6 +270,16 @@ impl<'a, R: RowStore> Draft<'a, R> {
         if self.lacks_metric(net, metric)? {
             return Ok(Some(Rule::G11));
         }
+        self.cost_room_rule(key)
+    }
+
+    /// The rule that a cost breaks which is put where there are as many as may be.
+    fn cost_room_rule(&self, key: &Key) -> Result<Option<Rule>, AllocError>
+        ensures { IfOk result (λ broken. broken ≡ first_broken ((
+          rule.G12,
+          lacks (drafted_rows self.now) key.now && is_full (drafted_rows self.now) key.now 262144,
+        ) ∷ [])) }
+    {
         if self.is_full(key, MOST_COSTS)? {
             return Ok(self.lacking(key, Rule::G12));
         }

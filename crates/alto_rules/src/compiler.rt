@@ -42,7 +42,8 @@ pub fn compile<R: RowStore>(
     requires room { HaveNextVersions (R.rows rows.now) }
 
     ensures ok { IfOk result (λ writes. compiled (R.rows rows.now) edits.now past ≡ Ok writes.items) }
-    ensures err { IfErr result (λ fault. fault ≢ CompileFault.Memory → compiled (R.rows rows.now) edits.now past ≡ Err fault) }
+    ensures err { IfErr result (λ fault. fault ≢ CompileFault.Memory
+        → compiled (R.rows rows.now) edits.now past ≡ Err fault) }
 {
     let draft = drafted(alloc, rows, edits)?.versioned()?;
     match draft.broken_by_batch(past) {
@@ -61,7 +62,8 @@ fn drafted<'a, R: RowStore>(
     requires owners { HaveOneOwner (R.rows rows.now) }
     ensures rows { IfOk result (λ draft. draft.rows ≡ R.rows rows.now) }
     ensures ok { IfOk result (λ draft. edits_writes (R.rows rows.now) 1 edits.now ≡ Ok draft.writes) }
-    ensures err { IfErr result (λ fault. fault ≢ CompileFault.Memory → edits_writes (R.rows rows.now) 1 edits.now ≡ Err fault) }
+    ensures err { IfErr result (λ fault. fault ≢ CompileFault.Memory
+        → edits_writes (R.rows rows.now) 1 edits.now ≡ Err fault) }
 {
     let indexes = puts_many(edits);
     let mut draft = Draft::new(alloc, rows);

@@ -1,4 +1,4 @@
-ghost use Rattle.std.specs.Prelude.{◌≡◌, ◌≢◌, ◌++◌, ◌∷◌, [], length, IfOk, Some, None, true, is_some};
+ghost use Rattle.std.specs.Prelude.{◌≡◌, ◌≢◌, ◌++◌, ◌∷◌, [], length, IfOk, Some, None, true, is_some, option_map};
 ghost use Rattle.alto_rows.specs.declared.key.Key.TheVariants as key;
 ghost use Rattle.alto_rows.specs.declared.value.Value.TheVariants as value;
 ghost use Rattle.alto_rows.specs.declared.write.Write.{Write};
@@ -6,6 +6,7 @@ ghost use Rattle.alto_rows.specs.Rows.{AreSorted, has_row};
 ghost use Rattle.alto_rows.specs.Span.{count_in};
 ghost use Rattle.alto_edits.specs.Writes.{deleting, is_free, putting, taking, writes_of};
 ghost use Rattle.alto_rules.specs.Draft.{GivesAlone, HasOwner, HaveOneOwner, drafted_rows, opened, wrote, writing};
+ghost use Rattle.alto_rules.specs.Kept.{last_key};
 ghost use Rattle.alto_rules.specs.Parts.{has_one_write};
 ghost use Rattle.alto_rules.specs.Sizes.{span_of};
 
@@ -26,7 +27,7 @@ use std::marker::Model;
 pub struct Draft<'a, R: RowStore> {
     pub rows: &'a R,
     pub writes: Vec<Write>,
-    pub kept: Kept,
+    pub kept: Kept<'a>,
 }
 
 impl<'a, R: RowStore> Model for Draft<'a, R> {
@@ -119,7 +120,7 @@ impl<'a, R: RowStore> Draft<'a, R> {
         ensures { IfOk result (λ draft. draft ≡ wrote self.entry (writing key value ∷ [])) }
     {
         let Draft { rows, writes, kept } = self;
-        let kept = kept.with(rows, &key, value.is_some())?;
+        let kept = kept.with(rows, last_key(&writes), &key, value.is_some())?;
         let writes = with_write(writes, Write { key, value })?;
         Ok(Draft { rows, writes, kept })
     }
@@ -127,7 +128,8 @@ impl<'a, R: RowStore> Draft<'a, R> {
     /// The draft with a prefix given to a PID, and taken from the PID that had it. Some searches where the owners of
     /// the network's prefixes are known, else one walk over these.
     fn give(self, net: &NetName, pid: &PidName, prefix: &Prefix) -> Result<Self, AllocError>
-        ensures { IfOk result (λ draft. draft ≡ wrote self.entry (taking (drafted_rows self.entry) net.now pid.now prefix.now
+        ensures { IfOk result (λ draft. draft ≡ wrote self.entry (
+            taking (drafted_rows self.entry) net.now pid.now prefix.now
             ++ putting (key.Prefix net.now pid.now prefix.now) value.Unit ∷ [])) }
     {
         let draft = self.take(net, pid, prefix)?;
@@ -137,7 +139,8 @@ impl<'a, R: RowStore> Draft<'a, R> {
 
     /// The draft with a prefix taken from any other PID.
     fn take(self, net: &NetName, pid: &PidName, prefix: &Prefix) -> Result<Self, AllocError>
-        ensures taken { IfOk result (λ draft. draft ≡ wrote self.entry (taking (drafted_rows self.entry) net.now pid.now prefix.now)) }
+        ensures taken { IfOk result (λ draft. draft
+            ≡ wrote self.entry (taking (drafted_rows self.entry) net.now pid.now prefix.now)) }
         ensures alone { IfOk result (λ draft. GivesAlone (drafted_rows draft) (key.Prefix net.now pid.now prefix.now)) }
     {
         let _ = &self.rows;
@@ -157,7 +160,8 @@ impl<'a, R: RowStore> Draft<'a, R> {
     ) -> Result<Self, AllocError>
         requires sorted { AreSorted (drafted_rows self) }
         requires owner { HasOwner (drafted_rows self) net.now prefix.now (Some owner) }
-        ensures taken { IfOk result (λ draft. draft ≡ wrote self.entry (taking (drafted_rows self.entry) net.now pid.now prefix.now)) }
+        ensures taken { IfOk result (λ draft. draft
+            ≡ wrote self.entry (taking (drafted_rows self.entry) net.now pid.now prefix.now)) }
         ensures alone { IfOk result (λ draft. GivesAlone (drafted_rows draft) (key.Prefix net.now pid.now prefix.now)) }
     {
         if owner == *pid {
@@ -196,6 +200,13 @@ impl<'a, R: RowStore> Draft<'a, R> {
         let kept = kept.knowing(*writes.allocator(), rows, net)?;
         Ok(Draft { rows, writes, kept })
     }
+}
+
+/// The key of the last write.
+fn last_key(writes: &[Write]) -> Option<&Key>
+    ensures { option_map (λ key. key.now) result ≡ last_key writes.now }
+{
+    Some(&writes.last()?.key)
 }
 
 /// The writes with one more.

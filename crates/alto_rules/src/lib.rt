@@ -11,6 +11,7 @@ mod keys;
 mod owners;
 mod parts;
 mod place;
+mod runs;
 mod shared;
 mod sizes;
 mod versions;

@@ -76,7 +76,8 @@ impl Owners {
     ) -> Result<Owners, AllocError>
         requires { HaveOneOwner (R.rows rows.now) }
         ensures { IfOk result (λ owners. (later : Rows)
-            → AreOwners (R.rows rows.now) later self.of self.known → AreOwners (R.rows rows.now) later owners.of owners.known) }
+            → AreOwners (R.rows rows.now) later self.of self.known
+            → AreOwners (R.rows rows.now) later owners.of owners.known) }
     {
         let Owners { of, known } = self;
         if known.contains(net) {

@@ -1,5 +1,6 @@
-ghost use Rattle.std.specs.Prelude.{◌≡◌, IfOk, IfSome, IsTrue};
+ghost use Rattle.std.specs.Prelude.{◌≡◌, IfOk, IfSome, IsTrue, Some};
 ghost use Rattle.alto_rows.specs.declared.key.Key.TheVariants as keys;
+ghost use Rattle.alto_rules.specs.Origin.{last_origin};
 ghost use Rattle.alto_rules.specs.Parts.{edit_key};
 
 use crate::draft::Draft;
@@ -9,7 +10,7 @@ use crate::written::stored_in;
 use alto_addr::Prefix;
 use alto_edits::Edit;
 use alto_names::{Kind, Label, Metric, NetName, PidName};
-use alto_rows::{Key, PackedPrefix, RowStore};
+use alto_rows::{Key, PackedPrefix, RowStore, Write};
 use std::alloc::AllocError;
 
 impl<'a, R: RowStore> Draft<'a, R> {
@@ -59,7 +60,7 @@ impl<'a, R: RowStore> Draft<'a, R> {
         Ok(Key::Prefix(self.net_name(net)?, pid, PackedPrefix::new(prefix)))
     }
 
-    /// The key of a cost, with its names so. All but its destination are those of the last write, where this is of a
+    /// The key of a cost, with its names so. All but its destination are those of the last write, where this puts a
     /// cost with the same names.
     fn shared_cost(
         &self,
@@ -71,38 +72,48 @@ impl<'a, R: RowStore> Draft<'a, R> {
         ensures { IfOk result (λ key. key ≡ keys.Cost net.now metric.now source.now destination.now) }
     {
         let destination = self.pid_name(net, destination)?;
-        match self.last_cost(net, metric, source, &destination)? {
-            Some(key) => Ok(key),
+        match self.last_origin(net, metric, source) {
+            Some((net, metric, source)) => cost_key(net, metric, source, &destination),
             None => self.named_cost(net, metric, source, destination),
         }
     }
 
-    /// The same with the names of the last write, where it is of a cost with the same first names. No search.
-    fn last_cost(
+    /// The network, the metric and the source of the cost that the last write puts, where they are these. No search.
+    pub fn last_origin(
         &self,
         net: &NetName,
         metric: &Metric,
         source: &PidName,
-        destination: &PidName,
-    ) -> Result<Option<Key>, AllocError>
-        ensures { IfOk result (λ found. IfSome found (λ key.
-            key ≡ keys.Cost net.now metric.now source.now destination.now)) }
+    ) -> Option<(&NetName, &Metric, &PidName)>
+        ensures last { IfSome result (λ _. last_origin self.now.writes
+            ≡ Some (record { net = net.now; metric = metric.now; source = source.now })) }
+        ensures names { IfSome result (λ last.
+            (last.0.now ≡ net.now) × (last.1.now ≡ metric.now) × (last.2.now ≡ source.now)) }
     {
-        let Some(last) = self.writes.last() else {
-            return Ok(None);
-        };
-        match &last.key {
-            Key::Cost(last_net, last_metric, last_source, _) => {
+        match self.last_cost() {
+            Some((last_net, last_metric, last_source))
                 if are_same(last_net, net)
                     && are_same(last_metric, metric)
-                    && are_same(last_source, source)
-                {
-                    Ok(Some(cost_key(last_net, last_metric, last_source, destination)?))
-                } else {
-                    Ok(None)
-                }
+                    && are_same(last_source, source) => {
+                Some((last_net, last_metric, last_source))
             }
-            _ => Ok(None),
+            _ => None,
+        }
+    }
+
+    /// The network, the metric and the source of the cost that the last write puts.
+    fn last_cost(&self) -> Option<(&NetName, &Metric, &PidName)>
+        ensures { IfSome result (λ last. last_origin self.now.writes
+            ≡ Some (record { net = last.0.now; metric = last.1.now; source = last.2.now })) }
+    {
+        match self.writes.last() {
+            Some(
+                Write {
+                    key: Key::Cost(net, metric, source, _),
+                    value: Some(_),
+                },
+            ) => Some((net, metric, source)),
+            _ => None,
         }
     }
 

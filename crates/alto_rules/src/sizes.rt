@@ -49,7 +49,8 @@ impl Sizes {
         has: bool,
     ) -> Result<Sizes, AllocError>
         ensures total { IfOk result (λ sizes. sizes.total ≡ recounted had has self.total) }
-        ensures counts { IfOk result (λ sizes. HasRecounted (R.rows rows.now) (counted_of key.now) had has self.counts sizes.counts) }
+        ensures counts { IfOk result (λ sizes.
+            HasRecounted (R.rows rows.now) (counted_of key.now) had has self.counts sizes.counts) }
     {
         let total = recounted(had, has, self.total)?;
         let counts = match counted_of(key)? {

@@ -1,31 +1,17 @@
--- The rule of the network, or else of the PIDs, or else the edit's own.
+-- A cost that is put after one of the same origin breaks one of two rules at most.
 use Rattle.std.proofs.Common.{sym, ◌∙◌}
 use Rattle.std.proofs.lemmas.Result.{IfOk-weaker}
 use Rattle.alto_rules.specs.Draft.{drafted_rows}
-use Rattle.alto_rules.proofs.CheckLemmas.{added_rule, of_net_rule, of_own_rule, of_pid_rule}
+use Rattle.alto_rules.proofs.CheckLemmas.{next_cost_rule}
+use Rattle.alto_rules.proofs.OriginLemmas.{declared_origin}
 use Rattle.alto_rules.proofs.draft.Draft.broken_rule.Goals as goal
 
-pub returns-in-NetAdd : goal.returns-in-NetAdd
-returns-in-NetAdd g c =
-    IfOk-weaker c.own_rule.result _ _ (λ broken h. h ∙ added_rule (drafted_rows c.args.self.now) c.args.edit.now _ c.in-NetAdd.is) c.own_rule.ensures
-
-pub returns-then-not-branch : goal.returns-then-not-branch
-returns-then-not-branch g c =
-    of_net_rule (drafted_rows c.args.self.now) c.args.edit.now c.in_default.not-NetAdd
-    (rw (← c.edit_net.ensures) (sym c.in_ok-has_net.ensures ∙ c.if-not-branch.true))
-
-pub returns-then-branch : goal.returns-then-branch
-returns-then-branch g c =
-    of_pid_rule (drafted_rows c.args.self.now) c.args.edit.now c.in_default.not-NetAdd
-    (rw (← c.edit_net.ensures) (sym c.in_ok-has_net.ensures ∙ c.if-not-branch.false))
-    (sym c.in_ok-lacks_pids.ensures ∙ c.if-branch.true)
-
-pub returns : goal.returns
-returns g c =
-    IfOk-weaker c.own_rule-2.result _ _
+pub returns-in-CostPut : goal.returns-in-CostPut
+returns-in-CostPut g c =
+    IfOk-weaker c.next_cost_rule.result _ _
     (λ broken h.
     h
-    ∙ of_own_rule (drafted_rows c.args.self.now) c.args.edit.now c.in_default.not-NetAdd
-    (rw (← c.edit_net.ensures) (sym c.in_ok-has_net.ensures ∙ c.if-not-branch.false))
-    (sym c.in_ok-lacks_pids.ensures ∙ c.if-branch.false))
-    c.own_rule-2.ensures
+    ∙ next_cost_rule (drafted_rows c.args.self.now) c.args.edit.now _ _ _ _ _ c.in-CostPut.is
+    (declared_origin c.args.self.now _ c.last_origin.result c.requires c.last_origin.ensures.last
+    (sym c.is_some.ensures ∙ c.if-is_some.true)))
+    c.next_cost_rule.ensures
