@@ -1,9 +1,8 @@
 -- What a ledger keeps, at its base and after a batch.
-use Rattle.std.proofs.Common.{◌≡◌, ℕ, ◌+◌, ◌≤◌, ◌<◌, List, [], ◌∷◌, ◌++◌, length, map, Some, refl, ap, sym, ◌∙◌, subst, suc, zero, arith, length-append}
-use Rattle.std.proofs.lemmas.List.{append-nil, length-map, map-append}
+use Rattle.std.proofs.Common.{◌≡◌, ℕ, ◌+◌, ◌≤◌, ◌<◌, List, [], ◌∷◌, ◌++◌, length, map, Some, None, refl, ap, sym, ◌∙◌, subst, suc, zero, arith, length-append}
+use Rattle.std.proofs.lemmas.List.{append-nil, length-map}
 use Rattle.std.proofs.lemmas.Option.{same_Some}
-use Rattle.std.specs.Prelude.{◌^◌, slice_get, true}
-use Rattle.std.specs.BTreeSet.{BTreeSet, Updates}
+use Rattle.std.specs.Prelude.{◌^◌, Result, Ok, Err, OnErr, OnOk, slice_get}
 use Rattle.std.proofs.lemmas.List.Elements.{recursion_from_All}
 use Rattle.std.specs.List.{AllByRecursion, IsDistinct}
 use Rattle.std.specs.declared.cmp.Ordering.TheVariants.{Less}
@@ -13,24 +12,23 @@ use Rattle.alto_rows.specs.declared.key.Key.TheVariants as key
 use Rattle.alto_rows.specs.declared.value.Value.{Value}
 use Rattle.alto_rows.specs.declared.value.Value.TheVariants as value
 use Rattle.alto_rows.specs.Good.{AreGood}
-use Rattle.alto_rows.specs.Order.{key_cmp, kind_of, name_cmp, same_name}
+use Rattle.alto_rows.specs.Order.{key_cmp, kind_of, same_name}
 use Rattle.alto_rows.specs.Rows.{Rows, AreSorted, after}
 use Rattle.alto_rows.proofs.RowsLemmas.{ArePast, sorted_more}
-use Rattle.alto_book.specs.Acceptance.{with_batch}
-use Rattle.alto_book.specs.Book.{Book, Kept, all_kept, kept_of, opening_rows, writes_in}
+use Rattle.alto_book.specs.Acceptance.{known, with_batch}
+use Rattle.alto_book.specs.Book.{Book, Kept, all_kept, kept_of, number_of, opening_rows, writes_in}
 use Rattle.alto_book.specs.Legal.{IsLegal, NeverFall}
 use Rattle.alto_book.proofs.GrownLemmas.{all_kept-grown, writes_in-grown}
 use Rattle.alto_book.proofs.StateLemmas.{good_rows}
 use Rattle.alto_versions.specs.Course.{CourseData, Follows}
 use Rattle.alto_versions.specs.Front.{Version, StandsFor}
 use Rattle.alto_versions.proofs.CourseLemmas.{rows_of-with_batch}
-use Rattle.base_check.specs.Receipts.{HasIds}
 use Rattle.base_check.specs.Rules as judged
 use Rattle.base_check.specs.Rules.{KeepsRule, ids_of}
-use Rattle.base_check.proofs.ReceiptLemmas.{ids_more}
 use Rattle.base_code.specs.Bases.{AreStored, KeptData, write_of}
 use Rattle.batch_code.specs.Storable.{IsStored}
-use Rattle.alto_desk.specs.Ledger.{HasRead, Keeps, book_kept, receipt_of}
+use Rattle.alto_desk.specs.Ledger.{ArePlaced, HasPut, HasRead, Keeps, Places, book_kept, kept_in, place_of, receipt_of}
+use Rattle.alto_desk.proofs.PlaceLemmas.{placed_more, placed_still, put_here}
 
 -- ---- rows behind those of a new book
 
@@ -110,18 +108,25 @@ legal_base base receipts keeps small = record {
 }
 
 -- it is a book that is being read
-pub read_base : (base : Rows) (receipts : List KeptData) (batches : List Accepted) (ids : BTreeSet (List ℕ)) (course : CourseData)
-    → KeepsRule base receipts → length receipts < 2 ^ 62 → batches ≡ [] → HasIds (ids_of receipts) ids → Follows course (book_kept base receipts [])
-    → HasRead (book_kept base receipts batches) 0 ids course
-read_base base receipts batches ids course keeps small empty has follows =
+pub read_base : (base : Rows) (receipts : List KeptData) (batches : List Accepted) (places : Places)
+    (course : CourseData)
+    → KeepsRule base receipts → length receipts < 2 ^ 62 → batches ≡ [] → ArePlaced (kept_in receipts batches) places
+    → Follows course (book_kept base receipts []) → HasRead (book_kept base receipts batches) places 0 course
+read_base base receipts batches places course keeps small empty placed follows =
     rw empty (record {
       legal = legal_base base receipts keeps small;
+      placed = subst (λ (some : List Accepted). ArePlaced (kept_in receipts some) places) empty placed;
       counted = refl;
-      ids = subst (λ (all : List (List ℕ)). HasIds all ids) (sym (all_ids base receipts)) has;
       follows = follows;
     })
 
 -- ---- one batch more
+
+-- how much a book keeps
+pub count_kept : (book : Book) → length (all_kept book) ≡ number_of book
+count_kept book =
+    let parts = length-append book.receipts (map kept_of book.batches) in
+    omega (arith, parts, length-map book.batches kept_of)
 
 -- the count of writes after one batch more
 counted_more : (book : Book) (batch : Accepted) (writes len : ℕ) → writes ≡ length (writes_in book.batches)
@@ -129,37 +134,68 @@ counted_more : (book : Book) (batch : Accepted) (writes len : ℕ) → writes �
 counted_more book batch writes len counted own =
     rw (counted, own, writes_in-grown book.batches batch) (sym (length-append (writes_in book.batches) batch.writes))
 
--- a ledger with one batch more, and the version after it
-pub keeps_more : (book : Book) (batch : Accepted) (writes len : ℕ) (batches : List Accepted) (old version : Version)
-    → Keeps book writes old → IsLegal (with_batch book batch)
+-- the places after one batch more, whose id has the next
+pub placed_grown : (book : Book) (batch : Accepted) (places : Places) → ArePlaced (all_kept book) places
+    → place_of places batch.id ≡ Some (number_of book) → ArePlaced (all_kept (with_batch book batch)) places
+placed_grown book batch places placed next =
+    subst (λ (kept : List Kept). ArePlaced kept places) (sym (all_kept-grown book batch))
+    (placed_more (all_kept book) (kept_of batch) places placed (next ∙ ap (λ (n : ℕ). Some n) (sym (count_kept book))))
+
+-- a ledger whose places may have gained that of a new id
+pub keeps_put : {T E : Type 0} (book : Book) (batches : List Accepted) (earlier later : Places) (id : List ℕ)
+    (place writes : ℕ) (version : Version) (put : Result T E)
+    → Keeps book earlier writes version → batches ≡ book.batches → known (all_kept book) id ≡ None
+    → OnOk put (HasPut earlier later id place) → OnErr put (later ≡ earlier)
+    → Keeps (record { base = book.base; receipts = book.receipts; batches = batches }) later writes version
+keeps_put book batches earlier later id place writes version (Ok x) keeps same new added unchanged =
+    rw same
+    (record {
+      legal = keeps.legal;
+      placed = placed_still (all_kept book) earlier later id place keeps.placed new added;
+      counted = keeps.counted;
+      stands = keeps.stands;
+    })
+keeps_put book batches earlier later id place writes version (Err e) keeps same new added unchanged =
+    rw (same, unchanged) keeps
+
+-- a ledger with one batch more, whose id has the next place, and the version after it
+pub keeps_more : (book : Book) (batch : Accepted) (places : Places) (writes len : ℕ) (batches : List Accepted)
+    (old version : Version)
+    → Keeps book places writes old → IsLegal (with_batch book batch)
+    → place_of places batch.id ≡ Some (number_of book)
     → batches ≡ book.batches ++ batch ∷ [] → len ≡ length batch.writes
     → StandsFor version (with_batch book batch)
-    → Keeps (record { base = book.base; receipts = book.receipts; batches = batches }) (writes + len) version
-keeps_more book batch writes len batches old version keeps legal more own stands =
-    rw more
-    (record { legal = legal; counted = counted_more book batch writes len keeps.counted own; stands = stands })
-
--- the same of a book that is being read
-pub read_more : (book : Book) (batch : Accepted) (writes len : ℕ) (batches : List Accepted) (ids ids' : BTreeSet (List ℕ)) (old course : CourseData)
-    → HasRead book writes ids old → IsLegal (with_batch book batch)
-    → batches ≡ book.batches ++ batch ∷ [] → len ≡ length batch.writes
-    → Updates name_cmp ids ids' batch.id true
-    → Follows course (with_batch book batch)
-    → HasRead (record { base = book.base; receipts = book.receipts; batches = batches }) (writes + len) ids' course
-read_more book batch writes len batches ids ids' old course read legal more own updates follows =
+    → Keeps (record { base = book.base; receipts = book.receipts; batches = batches }) places (writes + len) version
+keeps_more book batch places writes len batches old version keeps legal next more own stands =
     rw more
     (record {
       legal = legal;
+      placed = placed_grown book batch places keeps.placed next;
+      counted = counted_more book batch writes len keeps.counted own;
+      stands = stands;
+    })
+
+-- a book that is being read, with one batch more
+pub read_more : (book : Book) (batch : Accepted) (writes len place : ℕ) (batches : List Accepted)
+    (earlier later : Places) (old course : CourseData)
+    → HasRead book earlier writes old → IsLegal (with_batch book batch)
+    → batches ≡ book.batches ++ batch ∷ [] → len ≡ length batch.writes
+    → known (all_kept book) batch.id ≡ None → place ≡ number_of book → HasPut earlier later batch.id place
+    → Follows course (with_batch book batch)
+    → HasRead (record { base = book.base; receipts = book.receipts; batches = batches }) later (writes + len) course
+read_more book batch writes len place batches earlier later old course read legal more own new count put follows =
+    rw more
+    (record {
+      legal = legal;
+      placed =
+          placed_grown book batch later (placed_still (all_kept book) earlier later batch.id place read.placed new put)
+          (put_here earlier later batch.id place put ∙ ap (λ (n : ℕ). Some n) count);
       counted = counted_more book batch writes len read.counted own;
-      ids = subst (λ (all : List (List ℕ)). HasIds all ids') (sym grown) (ids_more _ batch.id ids ids' read.ids updates);
       follows = follows;
     })
-  where
-    grown : map (λ (kept : Kept). kept.id) (all_kept (with_batch book batch)) ≡ map (λ (kept : Kept). kept.id) (all_kept book) ++ batch.id ∷ []
-    grown = ap (map (λ (kept : Kept). kept.id)) (all_kept-grown book batch) ∙ map-append (λ (kept : Kept). kept.id) (all_kept book) (kept_of batch ∷ [])
 
 -- the rows after a batch that the book may take are good
-pub good_more : (book : Book) (batch : Accepted) (writes : ℕ) (version : Version) → Keeps book writes version
-    → IsLegal (with_batch book batch) → AreGood (after version.rows batch.writes)
-good_more book batch writes version keeps legal =
+pub good_more : (book : Book) (batch : Accepted) (places : Places) (writes : ℕ) (version : Version)
+    → Keeps book places writes version → IsLegal (with_batch book batch) → AreGood (after version.rows batch.writes)
+good_more book batch places writes version keeps legal =
     rw (keeps.stands.current, rows_of-with_batch book batch) (good_rows (with_batch book batch) legal)

@@ -2,6 +2,7 @@ pub mod AcceptLemmas
 pub mod KeepsLemmas
 pub mod KnownLemmas
 pub mod PieceLemmas
+pub mod PlaceLemmas
 pub mod RecordLemmas
 pub mod RuleLemmas
 pub mod NextLemmas

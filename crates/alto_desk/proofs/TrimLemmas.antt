@@ -1,8 +1,8 @@
 -- Records whose base takes in batches stand for the book whose base has moved on.
-use Rattle.std.proofs.Common.{◌≡◌, ℕ, zero, suc, ◌+◌, ◌-◌, ◌≤◌, ◌<◌, pos, List, [], ◌∷◌, ◌++◌, length, map, All, refl, ap, sym, ◌∙◌, subst, arith, length-append}
+use Rattle.std.proofs.Common.{◌≡◌, ℕ, zero, suc, ◌+◌, ◌-◌, ◌≤◌, ◌<◌, pos, List, [], ◌∷◌, ◌++◌, length, map, All, refl, ap, sym, ◌∙◌, subst, arith}
 use Rattle.std.proofs.lemmas.Bool.Decides.{nat_tests}
 use Rattle.std.proofs.lemmas.Int.{ints}
-use Rattle.std.specs.Prelude.{◌^◌, max, Bool, true, false, cond, not, ◌&&◌, int_le, filter, take, drop}
+use Rattle.std.specs.Prelude.{◌^◌, Bool, true, false, cond, not, filter, take, drop}
 use Rattle.std.specs.List.{AllByRecursion}
 use Rattle.std.proofs.lemmas.List.{append-nil, drop-map, length-map, map-append, take-map}
 use Rattle.std.proofs.lemmas.List.Elements.{All-append, All-drop, All-from_recursion, All-take, recursion_from_All}
@@ -18,7 +18,7 @@ use Rattle.base_code.specs.Pieces.{base_pieces}
 use Rattle.batch_code.specs.Spelling.{batch_bytes, head_bytes}
 use Rattle.batch_code.specs.Storable.{IsStorable}
 use Rattle.alto_desk.specs.Ledger.{book_kept, receipt_of}
-use Rattle.alto_desk.specs.Records.{Backs, StoredAs, book_from, records_of}
+use Rattle.alto_desk.specs.Records.{Backs, StoredAs, book_from}
 use Rattle.alto_desk.specs.Trim.{base_of, kept_data, trim, trim_number}
 use Rattle.alto_desk.proofs.StoredRowsLemmas.{after_opening, behind, behind-opening, few_behind, good_stored}
 

@@ -2,7 +2,6 @@
 use Rattle.std.specs.Prelude.{ℕ, ◌-◌, max, Bool, true, false, not, length, map, filter}
 use Rattle.alto_rows.specs.declared.key.Key.{Key}
 use Rattle.alto_rows.specs.declared.key.Key.TheVariants as key
-use Rattle.alto_rows.specs.Rows.{Rows}
 use Rattle.alto_book.specs.Book.{Book, Kept, number_of, trimmed}
 use Rattle.base_code.specs.Bases.{BaseData, KeptData}
 

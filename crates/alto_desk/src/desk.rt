@@ -93,9 +93,9 @@ impl<K: Keeper + Drop, R: RowStore> Desk<K, R> {
     /// A batch is in the book exactly where the keeper took it: its version is made, and there is room for it, before
     /// the keeper is called.
     ///
-    /// Costs what `compile` and the store's `with` cost, one look at each receipt and batch, two searches for each
-    /// declared resource, whose graph the next version shares, a look at each write for each network, a range table
-    /// for each network whose prefixes are written, and the bytes of the batch.
+    /// Costs what `compile` and the store's `with` cost, two searches for the id, two for each declared resource, whose
+    /// graph the next version shares, a look at each write for each network, a range table for each network whose
+    /// prefixes are written, and the bytes of the batch.
     pub fn edit(
         &mut self,
         alloc: Global,
@@ -139,7 +139,8 @@ impl<K: Keeper + Drop, R: RowStore> Desk<K, R> {
     /// keeper is called, which takes the records of the older batches away.
     ///
     /// Costs what the store's `with` costs for each batch, a walk over the rows of the base, its bytes, a copy of each
-    /// receipt, two searches for each declared resource for each batch that stays, and a range table for each network.
+    /// receipt, a search for each id, two searches for each declared resource for each batch that stays, and a range
+    /// table for each network.
     pub fn trim(&mut self, alloc: Global, keep: u32) -> Result<u64, TrimFault>
         ensures trimmed { OnOk result (self.new.ledger.book
             ≡ trim self.old.ledger.book (trim_number self.old.ledger.book keep)) }
@@ -207,7 +208,7 @@ impl<K: Keeper + Drop, R: RowStore> Desk<K, R> {
         let batch = Arc::new(alloc, self.ledger.next_batch(alloc, command, moment)?)?;
         let front = self.ledger.version_with(alloc, &batch)?;
         let bytes = encode(alloc, &batch)?;
-        self.ledger.reserve()?;
+        self.ledger.reserve(&batch)?;
         self.keep(alloc, &bytes, tally)?;
         Ok(self.ledger.add(batch, front))
     }

@@ -1,64 +1,85 @@
 //! What a desk looks up among its receipts and batches.
-ghost use Rattle.std.specs.Prelude.{◌≡◌, ◌<◌, ◌≤◌, ◌^◌, ◌++◌, ℕ, List, IfSome, fold, length, map, option_map};
+ghost use Rattle.std.specs.Prelude.{◌≡◌, ◌<◌, ◌+◌, ◌^◌, ◌++◌, ℕ, false, List, IfNone, IfSome, Some, fold, length, map};
+ghost use Rattle.std.specs.Prelude.{option_map, slice_get};
 ghost use Rattle.std.specs.Arc.{arc_value};
 ghost use Rattle.alto_names.specs.Name.{IsImportId};
+ghost use Rattle.alto_rows.specs.Order.{same_name};
 ghost use Rattle.alto_book.specs.Acceptance as book;
 ghost use Rattle.alto_book.specs.Book.{kept_of};
 ghost use Rattle.alto_desk.specs.Known as told;
-ghost use Rattle.alto_desk.specs.Ledger.{receipt_of};
+ghost use Rattle.alto_desk.specs.Ledger.{ArePlaced, kept_in, receipt_of};
 
+use crate::places::Places;
 use alto_book::{Command, EditFault, Receipt};
 use alto_names::ImportId;
 use alto_rows::{Batch, Write};
 use base_code::Kept;
 use std::sync::Arc;
 
-/// What an import is answered whose id has a batch, from the receipts of the base and the batches behind it. It looks
-/// at each once, and takes no memory.
+/// What is kept of an import: the number of its batch, from 1, its digest and its moment.
+#[derive(Drop)]
+pub(crate) struct Found<'a> {
+    n: u64,
+    digest: &'a [u8; 32],
+    moment: u64,
+}
+
+/// What an import is answered whose id has a batch, from the receipts of the base, the batches behind it, and their
+/// places. One search, and takes no memory.
 pub(crate) fn answer_if_known(
+    places: &Places,
     receipts: &[Kept],
     batches: &[Arc<Batch>],
     command: &Command,
 ) -> Option<Result<Receipt, EditFault>>
-    ensures { result ≡ told.answer_if_known (map receipt_of receipts.now ++ map kept_of (map arc_value batches.now))
-        command.now }
+    requires { ArePlaced (kept_in receipts.now (map arc_value batches.now)) places.now }
+    ensures { result ≡ told.answer_if_known (kept_in receipts.now (map arc_value batches.now)) command.now }
 {
-    if let Some((n, kept)) = known_receipt(receipts, &command.id) {
-        return Some(answer(n, &kept.digest, kept.moment, command));
-    }
-    if let Some((n, batch)) = known_batch(batches, &command.id) {
-        let n = receipts.len() as u64 + n;
-        return Some(answer(n, &batch.digest, batch.moment, command));
-    }
-    None
+    let found = known(places, receipts, batches, &command.id)?;
+    Some(answer(found.n, found.digest, found.moment, command))
 }
 
-/// The receipt of an id, with its number from 1.
-fn known_receipt<'a>(receipts: &'a [Kept], id: &ImportId) -> Option<(u64, &'a Kept)>
-    ensures found { option_map (λ found. (found.0, receipt_of found.1.now)) result
-        ≡ book.known (map receipt_of receipts.now) id.now }
-    ensures within { IfSome result (λ found. found.0 ≤ length receipts.now) }
+/// What is kept of the import that has an id. One search.
+pub(crate) fn known<'a>(
+    places: &Places,
+    receipts: &'a [Kept],
+    batches: &'a [Arc<Batch>],
+    id: &ImportId,
+) -> Option<Found<'a>>
+    requires { ArePlaced (kept_in receipts.now (map arc_value batches.now)) places.now }
+    ensures { option_map
+        (λ found. (found.n, record { id = id.now; digest = found.digest.now; moment = found.moment })) result
+        ≡ book.known (kept_in receipts.now (map arc_value batches.now)) id.now }
 {
-    for (before, kept) in receipts.iter().enumerate() {
-        if kept.id == *id {
-            return Some((before as u64 + 1, kept));
-        }
-    }
-    None
+    known_at(receipts, batches, places.find(id)?, id)
 }
 
-/// The batch of an id, with its number from 1 behind the base.
-fn known_batch<'a>(batches: &'a [Arc<Batch>], id: &ImportId) -> Option<(u64, &'a Batch)>
-    ensures found { option_map (λ found. (found.0, kept_of found.1.now)) result
-        ≡ book.known (map kept_of (map arc_value batches.now)) id.now }
-    ensures within { IfSome result (λ found. found.0 ≤ length batches.now) }
+/// What is kept at a place, where it is of this id.
+fn known_at<'a>(
+    receipts: &'a [Kept],
+    batches: &'a [Arc<Batch>],
+    place: usize,
+    id: &ImportId,
+) -> Option<Found<'a>>
+    ensures number { IfSome result (λ found. found.n ≡ place + 1) }
+    ensures kept { IfSome result (λ found. slice_get (kept_in receipts.now (map arc_value batches.now)) place
+        ≡ Some (record { id = id.now; digest = found.digest.now; moment = found.moment })) }
+    ensures other { IfNone result (IfSome (slice_get (kept_in receipts.now (map arc_value batches.now)) place)
+        (λ one. same_name one.id id.now ≡ false)) }
 {
-    for (before, batch) in batches.iter().enumerate() {
-        if batch.id == *id {
-            return Some((before as u64 + 1, batch));
-        }
+    if let Some(kept) = receipts.get(place) {
+        return (kept.id == *id).then_some(Found {
+            n: place as u64 + 1,
+            digest: &kept.digest,
+            moment: kept.moment,
+        });
     }
-    None
+    let batch: &Batch = batches.get(place - receipts.len())?;
+    (batch.id == *id).then_some(Found {
+        n: place as u64 + 1,
+        digest: &batch.digest,
+        moment: batch.moment,
+    })
 }
 
 /// What an import is answered whose id has the batch with this number, digest and moment: its receipt, where the bodies

@@ -1,4 +1,4 @@
-ghost use Rattle.std.specs.Prelude.{◌≡◌, ◌≢◌, ◌+◌, ◌<◌, ℤ, pos, None, Ok, Err, All, IfErr, IfOk, OnOk, length, map};
+ghost use Rattle.std.specs.Prelude.{◌≡◌, ◌≢◌, ◌+◌, ℤ, pos, None, Ok, Err, All, IfErr, IfOk, OnOk, map};
 ghost use Rattle.std.specs.Arc.{arc_value};
 ghost use Rattle.alto_edits.specs.Compiled.{compiled};
 ghost use Rattle.alto_edits.specs.Edits.{IsEdit};
@@ -9,8 +9,10 @@ ghost use Rattle.alto_book.specs.Legal.{IsLegal};
 ghost use Rattle.alto_versions.specs.Front.{StandsFor};
 ghost use Rattle.batch_code.specs.Storable.{IsStorable};
 ghost use Rattle.alto_desk.specs.Known as told;
+ghost use Rattle.alto_desk.specs.Ledger.{HasRoom};
 
 use crate::known::{answer_if_known, batch_of, last_moment};
+use crate::places::Places;
 use alto_book::{Command, EditFault, Receipt};
 use alto_edits::{CompileFault, Past};
 use alto_rows::{Batch, RowStore, Write};
@@ -21,13 +23,14 @@ use std::alloc::{AllocError, Global};
 use std::marker::Model;
 use std::sync::Arc;
 
-/// A book of accepted batches, and the version that they have led to. A contract sees the book, and how many batches
-/// there is room for.
+/// A book of accepted batches, and the version that they have led to. A contract sees the book, how many batches there
+/// is room for, and the places of ids.
 #[derive(Drop)]
 pub(crate) struct Ledger<R: RowStore> {
     pub(crate) base: Arc<R>,
     pub(crate) receipts: Vec<Kept>,
     pub(crate) batches: Vec<Arc<Batch>>,
+    pub(crate) places: Places,
     pub(crate) writes: u32,
     pub(crate) front: Arc<Front<R>>,
 }
@@ -42,11 +45,12 @@ impl<R: RowStore> Model for Ledger<R> {
     ghost view = { λ ledger. record {
       book = book_kept (R.rows (arc_value ledger.base)) ledger.receipts.items (map arc_value ledger.batches.items);
       room = vec_capacity ledger.batches;
+      places = ledger.places;
     } };
 
     ghost invariant = { λ ledger.
         Keeps (book_kept (R.rows (arc_value ledger.base)) ledger.receipts.items (map arc_value ledger.batches.items))
-        ledger.writes (arc_value ledger.front) };
+        ledger.places ledger.writes (arc_value ledger.front) };
 }
 
 impl<R: RowStore> Ledger<R> {
@@ -65,11 +69,11 @@ impl<R: RowStore> Ledger<R> {
         &self.batches
     }
 
-    /// What an import is answered whose id has a batch. It looks at each receipt and batch once.
+    /// What an import is answered whose id has a batch. One search.
     pub(crate) fn answer_if_known(&self, command: &Command) -> Option<Result<Receipt, EditFault>>
         ensures { result ≡ told.answer_if_known (all_kept self.now.book) command.now }
     {
-        answer_if_known(&self.receipts, &self.batches, command)
+        answer_if_known(&self.places, &self.receipts, &self.batches, command)
     }
 
     /// The number of the next batch.
@@ -92,6 +96,7 @@ impl<R: RowStore> Ledger<R> {
           answer = Ok (record { n = number_of self.now.book + 1; moment = batch.moment });
           book = with_batch self.now.book batch;
         }) }
+        ensures new { IfOk result (λ batch. spec.known (all_kept self.now.book) batch.id ≡ None) }
         ensures legal { IfOk result (λ batch. IsLegal (with_batch self.now.book batch)) }
         ensures err { IfErr result (λ fault. fault ≢ EditFault.Memory
             → (accept self.now.book command moment).answer ≡ Err fault) }
@@ -114,17 +119,20 @@ impl<R: RowStore> Ledger<R> {
         Ok(Arc::new(alloc, self.front.with(alloc, batch)?)?)
     }
 
-    /// Makes room for one batch more.
-    pub(crate) fn reserve(&mut self) -> Result<(), AllocError>
+    /// Makes room for a batch whose id is new. One search. The id keeps its place where the batch doesn't come.
+    pub(crate) fn reserve(&mut self, batch: &Batch) -> Result<(), AllocError>
+        requires { spec.known (all_kept self.old.book) batch.now.id ≡ None }
         ensures book { self.new.book ≡ self.old.book }
-        ensures room { OnOk result (length self.new.book.batches < self.new.room) }
+        ensures room { OnOk result (HasRoom self.new batch.now.id) }
     {
-        self.batches.reserve(1)
+        self.batches.reserve(1)?;
+        let place = self.receipts.len() + self.batches.len();
+        self.places.put(&batch.id, place)
     }
 
     /// Adds a batch, with the version after it, where there is room. Takes no memory.
     pub(crate) fn add(&mut self, batch: Arc<Batch>, front: Arc<Front<R>>) -> Receipt
-        requires room { length self.old.book.batches < self.old.room }
+        requires room { HasRoom self.old (arc_value batch).id }
         requires legal { IsLegal (with_batch self.old.book (arc_value batch)) }
         requires stands { StandsFor (arc_value front) (with_batch self.old.book (arc_value batch)) }
         ensures book { self.new.book ≡ with_batch self.old.book (arc_value batch) }

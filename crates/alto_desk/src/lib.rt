@@ -16,6 +16,7 @@ mod ledger;
 mod memory;
 mod next_base;
 mod opening;
+mod places;
 mod records;
 mod tally;
 mod trim;

@@ -1,14 +1,10 @@
 //! A book from batches that were read: each has to follow those before it.
-ghost use Rattle.std.specs.Prelude.{◌≡◌, ◌≢◌, ◌+◌, [], All, IfErr, IfOk, MatchBool, OnOk, true};
+ghost use Rattle.std.specs.Prelude.{◌≡◌, ◌≢◌, ◌+◌, [], All, IfErr, IfOk, MatchBool};
 ghost use Rattle.alto_book.specs.Acceptance.{past_of, with_batch};
 ghost use Rattle.alto_book.specs.Book.{number_of, opening_rows, rows_of};
 ghost use Rattle.alto_book.specs.Legal.{IsLegal};
-ghost use Rattle.std.specs.BTreeSet.{Updates};
-ghost use Rattle.alto_rows.specs.Order.{name_cmp};
 ghost use Rattle.alto_rows.specs.Rows.{after};
-ghost use Rattle.base_check.specs.Receipts.{HasIds};
 ghost use Rattle.base_check.specs.Rules as judged;
-ghost use Rattle.base_check.specs.Rules.{ids_of};
 ghost use Rattle.base_code.specs.Bases.{IsBase};
 ghost use Rattle.batch_check.specs.Rules as check;
 ghost use Rattle.batch_check.specs.Rules.{KeepsRules};
@@ -17,11 +13,12 @@ ghost use Rattle.alto_desk.specs.Opening.{ExplainsBatch, IsLater, IsNew, TellsBr
 ghost use Rattle.alto_desk.specs.Records.{base_rows, book_from};
 
 use crate::fault::OpenFault;
-use crate::known::last_moment;
+use crate::known::{known, last_moment};
 use crate::ledger::Ledger;
+use crate::places::Places;
 use crate::records::Records;
 use alto_edits::Past;
-use alto_names::{Epoch, ImportId};
+use alto_names::Epoch;
 use alto_rows::{Batch, Key, RowStore, Value, Write};
 use alto_versions::Course;
 use base_check::check_base;
@@ -29,7 +26,6 @@ use base_code::{Base, Kept};
 use batch_check::{BookRule, CheckFault, check};
 use json_tree::Name;
 use std::alloc::{AllocError, Global};
-use std::collections::BTreeSet;
 use std::marker::Model;
 use std::sync::Arc;
 
@@ -42,7 +38,7 @@ pub(crate) struct Opening<R: RowStore> {
     base: Arc<R>,
     receipts: Vec<Kept>,
     batches: Vec<Arc<Batch>>,
-    ids: BTreeSet<ImportId>,
+    places: Places,
     writes: u32,
     course: Course<R>,
 }
@@ -61,7 +57,7 @@ impl<R: RowStore> Model for Opening<R> {
     ghost invariant = { λ opening.
         HasRead
         (book_kept (R.rows (arc_value opening.base)) opening.receipts.items (map arc_value opening.batches.items))
-        opening.writes opening.ids opening.course };
+        opening.places opening.writes opening.course };
 }
 
 impl<R: RowStore> Opening<R> {
@@ -83,13 +79,14 @@ impl<R: RowStore> Opening<R> {
         }
         let first = first_rows::<R>(alloc, epoch, window)?;
         let whole = Arc::new(alloc, check_base(alloc, &first, rows, &receipts)?)?;
-        let ids = ids_of(alloc, &receipts)?;
+        let batches = Vec::new(alloc);
+        let places = Places::of(alloc, &receipts, &batches)?;
         let course = Course::new(alloc, receipts.len() as u64, Arc::try_clone(&whole)?)?;
         Ok(Opening {
             base: whole,
             receipts,
-            batches: Vec::new(alloc),
-            ids,
+            batches,
+            places,
             writes: 0,
             course,
         })
@@ -114,18 +111,18 @@ impl<R: RowStore> Opening<R> {
             base,
             receipts,
             mut batches,
-            mut ids,
+            mut places,
             writes,
             course: _,
         } = self;
         let writes = writes + batch.writes.len() as u32;
-        add(&mut ids, &batch.id)?;
+        places.put(&batch.id, receipts.len() + batches.len())?;
         batches.push(Arc::new(alloc, batch)?)?;
         Ok(Opening {
             base,
             receipts,
             batches,
-            ids,
+            places,
             writes,
             course,
         })
@@ -135,7 +132,7 @@ impl<R: RowStore> Opening<R> {
     fn is_new(&self, batch: &Batch) -> bool
         ensures { MatchBool result (IsNew self.now batch.now) (¬ IsNew self.now batch.now) }
     {
-        !self.ids.contains(&batch.id)
+        known(&self.places, &self.receipts, &self.batches, &batch.id).is_none()
     }
 
     /// Whether the last batch isn't after this one.
@@ -181,7 +178,7 @@ impl<R: RowStore> Opening<R> {
             base,
             receipts,
             batches,
-            ids: _,
+            places,
             writes,
             course,
         } = self;
@@ -189,6 +186,7 @@ impl<R: RowStore> Opening<R> {
             base,
             receipts,
             batches,
+            places,
             writes,
             front: Arc::new(alloc, course.into_front(alloc)?)?,
         })
@@ -197,8 +195,8 @@ impl<R: RowStore> Opening<R> {
 
 /// The book of the base and the batches that were read, in order, or the base or the first batch that breaks a rule.
 ///
-/// The base costs what `check_base` costs. Each batch costs what `check` costs, a search for its id, and what its
-/// resources' graphs cost; each network's range table is built once.
+/// The base costs what `check_base` costs, and a search for each id. Each batch costs what `check` costs, two searches
+/// for its id, and what its resources' graphs cost; each network's range table is built once.
 pub(crate) fn opened<R: RowStore>(alloc: Global, records: Records) -> Result<Ledger<R>, OpenFault>
     requires head { IsHead records.epoch records.window }
     requires base { IsBase records.base }
@@ -227,25 +225,6 @@ pub(crate) fn opened<R: RowStore>(alloc: Global, records: Records) -> Result<Led
         };
     }
     Ok(opening.into_ledger(alloc)?)
-}
-
-/// The ids of receipts.
-fn ids_of(alloc: Global, receipts: &[Kept]) -> Result<BTreeSet<ImportId>, AllocError>
-    ensures { IfOk result (HasIds (ids_of receipts.now)) }
-{
-    let mut ids = BTreeSet::new(alloc);
-    for kept in receipts {
-        add(&mut ids, &kept.id)?;
-    }
-    Ok(ids)
-}
-
-/// Adds an id.
-fn add(ids: &mut BTreeSet<ImportId>, id: &ImportId) -> Result<(), AllocError>
-    ensures { OnOk result (Updates name_cmp ids.old ids.new id.now true) }
-{
-    ids.insert(id.clone()?)?;
-    Ok(())
 }
 
 /// The fault of the base, with 0, or of the batch with a number.

@@ -14,6 +14,7 @@ ghost use Rattle.alto_desk.specs.Trim.{base_of, trim_number};
 
 use crate::ledger::Ledger;
 use crate::next_base::{next_base, rows_with};
+use crate::places::Places;
 use alto_rows::{Batch, RowStore};
 use alto_versions::{Course, Front};
 use base_code::{Base, Kept, encode_base};
@@ -40,8 +41,9 @@ impl<R: RowStore> Ledger<R> {
 
     /// The ledger of the same book whose base has taken in so many batches, and the pieces of that base.
     ///
-    /// Costs what the store's `with` costs for each batch, a walk over the rows of the base, a copy of each receipt,
-    /// two searches for each declared resource for each batch that stays, and a range table for each network.
+    /// Costs what the store's `with` costs for each batch, a walk over the rows of the base, a copy of each receipt, a
+    /// search for each id, two searches for each declared resource for each batch that stays, and a range table for
+    /// each network.
     pub(crate) fn trimmed(
         &self,
         alloc: Global,
@@ -77,10 +79,12 @@ fn ledger_of<R: RowStore>(
         ledger.book ≡ book_kept (R.rows (arc_value base)) receipts.items (map arc_value batches.now)) }
 {
     let front = Arc::new(alloc, front_of(alloc, &base, &receipts, batches)?)?;
+    let places = Places::of(alloc, &receipts, batches)?;
     Ok(Ledger {
         base,
         receipts,
         batches: shared(alloc, batches)?,
+        places,
         writes: count_writes(batches),
         front,
     })

@@ -1,12 +1,8 @@
 -- Each prefix of the batches makes a legal book, which the course follows.
-use Rattle.std.proofs.Common.{◌≡◌, ◌+◌, length, map, [], refl, ap, sym, ◌∙◌, subst, arith}
+use Rattle.std.proofs.Common.{map, [], refl, ap, subst, arith}
 use Rattle.std.proofs.lemmas.List.{length-map, take_all}
 use Rattle.std.proofs.lemmas.Result.{IfOk-weaker}
-use Rattle.std.specs.Prelude.{take}
 use Rattle.std.specs.Arc.{arc_value}
-use Rattle.alto_book.specs.Acceptance.{with_batch}
-use Rattle.alto_book.specs.Book.{Book}
-use Rattle.alto_book.specs.Legal.{IsLegal}
 use Rattle.alto_book.proofs.StateLemmas.{good_rows}
 use Rattle.alto_versions.specs.Course.{Follows}
 use Rattle.alto_desk.specs.Ledger.{book_kept, receipt_of}

@@ -1,5 +1,3 @@
-use Rattle.std.proofs.Common.{sym, subst}
-use Rattle.base_code.specs.Bases.{KeptData}
 use Rattle.alto_desk.proofs.trim.ledger_of.Goals as goal
 
 pub count_writes-requires : goal.count_writes-requires

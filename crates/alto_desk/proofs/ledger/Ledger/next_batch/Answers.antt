@@ -14,6 +14,9 @@ returns-clause-ok g c =
     rw (c.batch_of.ensures.batch, c.max.ensures, c.last_moment.ensures)
     (accepted_new _ c.args.command c.args.moment _ (sym c.requires.new) c.in_ok-writes.ensures.ok)
 
+pub returns-clause-new : goal.returns-clause-new
+returns-clause-new g c = rw c.batch_of.ensures.batch c.requires.new
+
 pub returns-clause-legal : goal.returns-clause-legal
 returns-clause-legal g c =
     rw (c.batch_of.ensures.batch, c.max.ensures, c.last_moment.ensures)

@@ -1,6 +1,5 @@
 -- The next base is that of the book whose base has moved on, and the batches that are left are its batches.
-use Rattle.std.proofs.Common.{ℕ, ◌+◌, ◌≤◌, List, ◌++◌, length, map, ap, sym, ◌∙◌, subst}
-use Rattle.std.proofs.lemmas.List.{length-map}
+use Rattle.std.proofs.Common.{◌+◌, ◌≤◌, List, ◌++◌, length, map, ap, sym, ◌∙◌, subst}
 use Rattle.std.specs.Prelude.{drop, take}
 use Rattle.std.specs.Arc.{arc_value}
 use Rattle.alto_rows.specs.Rows.{after}

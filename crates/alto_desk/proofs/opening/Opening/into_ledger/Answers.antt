@@ -8,6 +8,7 @@ into_front-requires g c =
 pub invariant_of-result : goal.invariant_of-result
 invariant_of-result g c = record {
   legal = c.self.invariant.legal;
+  placed = c.self.invariant.placed;
   counted = c.self.invariant.counted;
   stands = rw c.in_ok-new.ensures.ok (c.in_ok-into_front.ensures _ c.self.invariant.follows);
 }
