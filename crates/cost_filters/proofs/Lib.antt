@@ -6,5 +6,6 @@ pub mod HoldsLemmas
 pub mod PairLemmas
 pub mod FilterLemmas
 pub mod RunLemmas
+pub mod CutLemmas
 pub mod PairsLemmas
 pub mod TextLemmas

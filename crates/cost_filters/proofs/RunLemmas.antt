@@ -1,169 +1,303 @@
--- Runs of rows that lead to a key: what they tell of its value, and of later keys.
-use Rattle.std.proofs.Common.{◌≡◌, ◌<◌, ◌-◌, ℕ, zero, suc, refl, ap, sym, ◌∙◌, arith, drop, get_or, length}
-use Rattle.std.proofs.lemmas.Cmp.{tied_itself, nat_list_cmp_total}
-use Rattle.std.proofs.lemmas.List.Elements.{filter-append}
-use Rattle.std.specs.Prelude.{Bool, true, false, cond, not, List, [], ◌∷◌, ◌++◌, Some, None, slice_get}
+-- Runs of rows that lead to destinations: what they tell of costs, and of later destinations.
+use Rattle.std.proofs.Common.{◌≡◌, ◌<◌, ◌-◌, ◌+◌, ℕ, zero, suc, refl, ap, sym, ◌∙◌, arith, drop, get_or, length, inl, inr, length-append, append_assoc, append-nil}
+use Rattle.std.proofs.Math.Seq.{drop-append_seam}
+use Rattle.std.proofs.lemmas.Bool.{and_parts}
+use Rattle.std.proofs.lemmas.Cmp.{nat_list_cmp_total}
+use Rattle.std.proofs.lemmas.List.Elements.{All-drop}
+use Rattle.std.proofs.lemmas.Option.{get_or_from_slice_get}
+use Rattle.std.specs.Prelude.{Bool, true, false, cond, List, [], ◌∷◌, ◌++◌, ◌&&◌, ◌⊎◌, Result, Ok, Err, Some, None, option_map, slice_get}
 use Rattle.std.specs.Cmp.Lexicographic.{slice_cmp}
-use Rattle.std.specs.List.Sorted.{IsStrictlySortedBy}
+use Rattle.std.specs.List.Sorted.{IsBinarySearchResult, IsSearchInRange, IsStrictlySortedBy}
 use Rattle.std.specs.Ordering.{is_eq, is_gt, nat_cmp}
 use Rattle.std.specs.declared.cmp.Ordering.{Ordering}
 use Rattle.std.specs.declared.cmp.Ordering.TheVariants.{Less, Equal, Greater}
 use Rattle.alto_rows.specs.declared.key.Key.{Key}
+use Rattle.alto_rows.specs.declared.key.Key.TheVariants as key
 use Rattle.alto_rows.specs.declared.value.Value.{Value}
-use Rattle.alto_rows.specs.Order.{key_cmp, name_cmp}
-use Rattle.alto_rows.specs.Rows.{Rows, AreSorted, IsRunOf, rows_from, value_of}
-use Rattle.alto_rows.proofs.OrderLemmas.{key_cmp_itself, key_cmp_total, one_key}
-use Rattle.alto_rows.proofs.PlaceLemmas.{IsFound, rows_from-found}
-use Rattle.alto_rows.proofs.RowsLemmas.{past_first, past_lesser, same_key_back, sorted_left, sorted_rest, greater_back, less_back, value_of-past}
-use Rattle.alto_rows.proofs.RunLemmas.{AreFrom, from_rows_from, sorted_rows_from, value_of-rows_from}
+use Rattle.alto_rows.specs.Order.{key_cmp, name_cmp, same_name}
+use Rattle.alto_rows.specs.Place.{place_of}
+use Rattle.alto_rows.specs.Rows.{Rows, AreSorted, value_of}
+use Rattle.alto_rows.specs.Span.{is_in}
+use Rattle.alto_rows.proofs.OrderLemmas.{key_cmp_exact, key_cmp_total, name_cmp_exact, name_cmp_itself, one_key}
+use Rattle.alto_rows.proofs.PlaceLemmas.{IsFound, IsMissing, found_from_place, missing_from_place, place_behind_last, place_of-found, value_of-missing}
+use Rattle.alto_rows.proofs.RowsLemmas.{AreBefore, ArePast, before_middle, greater_back, less_back, past_lesser, past_middle, sorted_left, sorted_right, value_of-before, value_of-middle, value_of-past}
+use Rattle.alto_rows.proofs.SearchLemmas.{place_from_search}
+use Rattle.alto_rows.proofs.TouchesLemmas.{one_name, same_name_itself}
 use Rattle.alto_maps.specs.Shape.{Name}
 use Rattle.cost_docs.specs.CostMap.{number_at}
-use Rattle.cost_filters.specs.Runs.{Leads, OriginData, cost_to, first_value, key_to}
+use Rattle.cost_filters.specs.Runs.{AreCosts, Leads, OriginData, RunData, cost_to, costs_of, destination_cmp, first_value, key_to}
 
--- ---- the key of a cost
+-- ---- the keys of the costs from an origin
 
--- the key of a later destination is the greater
-key_less : (origin : OriginData) (dst next : Name) → name_cmp dst next ≡ Less → key_cmp (key_to origin dst) (key_to origin next) ≡ Less
+-- they are ordered by destination
+pub key_order : (origin : OriginData) (a b : Name) → key_cmp (key_to origin a) (key_to origin b) ≡ name_cmp a b
 unfolding key_cmp
-key_less origin dst next less =
-    rw (tied_itself nat_list_cmp_total origin.net, tied_itself nat_list_cmp_total origin.metric, tied_itself nat_list_cmp_total origin.src) less
+key_order origin a b = rw (name_cmp_itself origin.net, name_cmp_itself origin.metric, name_cmp_itself origin.src) refl
 
--- ---- a row at a place
+-- each is in their span
+pub own_key : (origin : OriginData) (dst : Name) → is_in (costs_of origin) (key_to origin dst) ≡ true
+own_key origin dst = rw (same_name_itself origin.net, same_name_itself origin.metric, same_name_itself origin.src) refl
+
+-- so a key in the span stands against another as its destination does
+destination_orders : (origin : OriginData) (at : Key) (dst : Name) → is_in (costs_of origin) at ≡ true
+    → destination_cmp at dst ≡ key_cmp at (key_to origin dst)
+destination_orders origin (key.Cost net metric src to) dst h =
+    let all = and_parts (same_name origin.net net) (same_name origin.metric metric && same_name origin.src src) h in
+    let both = and_parts (same_name origin.metric metric) (same_name origin.src src) all.1 in
+    let nets : origin.net ≡ net = one_name origin.net net all.0 in
+    let metrics : origin.metric ≡ metric = one_name origin.metric metric both.0 in
+    let srcs : origin.src ≡ src = one_name origin.src src both.1 in
+    rw (← nets, ← metrics, ← srcs) (sym (key_order origin to dst))
+destination_orders _ _ _ h = cc
+
+-- three tests may begin with the last
+pub last_first : (a b c : Bool) → (c && (a && b)) ≡ (a && (b && c))
+last_first true true true = refl
+last_first true true false = refl
+last_first true false true = refl
+last_first true false false = refl
+last_first false b true = refl
+last_first false b false = refl
+
+-- ---- the place of a destination
 
 -- a row with a key, by its place
-pub found_at : (rows : Rows) (at : Key) (place : ℕ) (row : Key × Value) → place < length rows → row ≡ get_or rows place row → is_eq (key_cmp row.0 at) ≡ true → IsFound rows at place
+found_at : (rows : Rows) (at : Key) (place : ℕ) (row : Key × Value) → place < length rows → row ≡ get_or rows place row
+    → is_eq (key_cmp row.0 at) ≡ true → IsFound rows at place
 found_at [] at place row within is same = absurd (omega arith)
 found_at (first ∷ rows) at zero row within is same =
     let key : first.0 ≡ at = one_key first.0 at (rw is at same) in
     record { front = []; value = first.1; back = rows; whole = rw (← key) refl; place = refl }
 found_at (first ∷ rows) at (suc place) row within is same =
     let below : IsFound rows at place = found_at rows at place row (omega arith) is same in
-    record { front = first ∷ below.front; value = below.value; back = below.back; whole = ap (λ (more : Rows). first ∷ more) below.whole; place = ap suc below.place }
+    record {
+      front = first ∷ below.front;
+      value = below.value;
+      back = below.back;
+      whole = ap (λ (more : Rows). first ∷ more) below.whole;
+      place = ap suc below.place;
+    }
 
--- ---- a run that is used up
+-- it is that of a row with the destination
+pub placed_at : (origin : OriginData) (rows : Rows) (dst : Name) (place : ℕ) (row : Key × Value) → AreCosts origin rows
+    → place < length rows → row ≡ get_or rows place row → is_eq (destination_cmp row.0 dst) ≡ true
+    → place_of rows (key_to origin dst) ≡ Ok place
+placed_at origin rows dst place row costs within is same =
+    let shared : is_in (costs_of origin) row.0 ≡ true = rw is (costs.shared place row within) in
+    place_of-found rows (key_to origin dst) place costs.sorted
+    (found_at rows (key_to origin dst) place row within is
+    (ap is_eq (sym (destination_orders origin row.0 dst shared)) ∙ same))
 
--- the first of sorted rows is before a key where the last is, and then none is at the key or behind it
-before_key : (first : Key × Value) (rows : Rows) (key : Key) (row : Key × Value) → AreSorted (first ∷ rows)
-    → Some row ≡ slice_get (first ∷ rows) (length rows) → key_cmp row.0 key ≡ Less
-    → (key_cmp first.0 key ≡ Less) × (rows_from (first ∷ rows) key ≡ [])
-before_key first [] key row s at less =
-    let same : row ≡ first = cc in
-    let low : key_cmp first.0 key ≡ Less = ap (λ (r : Key × Value). key_cmp r.0 key) (sym same) ∙ less in
-    (low, rw (less_back first.0 key low) refl)
-before_key first (next ∷ rows) key row s at less =
-    let below = before_key next rows key row (sorted_rest first (next ∷ rows) s) at less in
-    let low : key_cmp first.0 key ≡ Less = key_cmp_total.trans first.0 next.0 key (past_first first (next ∷ rows) s).0 below.0 in
-    (low, rw (less_back first.0 key low) below.1)
-
--- so it is of the last row of a run
-pub none_behind : (rows : Rows) (key : Key) (row : Key × Value) → AreSorted rows → Some row ≡ slice_get rows (length rows - 1)
-    → key_cmp row.0 key ≡ Less → rows_from rows key ≡ []
-none_behind [] key row s at less = refl
-none_behind (first ∷ rows) key row s at less =
+-- it is behind rows of which the last stands before it
+pub placed_behind : (origin : OriginData) (rows : Rows) (dst : Name) (row : Key × Value) → AreCosts origin rows
+    → Some row ≡ slice_get rows (length rows - 1) → destination_cmp row.0 dst ≡ Less
+    → place_of rows (key_to origin dst) ≡ Err (length rows)
+placed_behind origin [] dst row costs last less = refl
+placed_behind origin (first ∷ rows) dst row costs last less =
     let place : length (first ∷ rows) - 1 ≡ length rows = omega arith in
-    (before_key first rows key row s (at ∙ ap (slice_get (first ∷ rows)) place) less).1
+    let is : get_or (first ∷ rows) (length rows) row ≡ row =
+    get_or_from_slice_get (first ∷ rows) (length rows) row row
+    (sym (last ∙ ap (slice_get (first ∷ rows)) place)) in
+    let shared : is_in (costs_of origin) row.0 ≡ true = rw is at (costs.shared (length rows) row (omega arith)) in
+    place_behind_last (first ∷ rows) (length rows) row (key_to origin dst) costs.sorted (omega arith) (omega arith)
+    (rw is (sym (destination_orders origin row.0 dst shared) ∙ less))
 
--- ---- runs that lead to keys
-
--- the rows from a later key on, among those from an earlier one on
-later_from : (low high : Key) → key_cmp low high ≡ Less → (rows : Rows) → rows_from (rows_from rows low) high ≡ rows_from rows high
-later_from low high less [] = refl
-later_from low high less (row ∷ rows) = by (later_from low high less rows) (key_cmp low row.0) refl
+-- a search by destinations finds what one by keys does
+pub placed_by_search : (origin : OriginData) (rows : Rows) (dst : Name) (r : Result ℕ ℕ) → AreCosts origin rows
+    → IsSearchInRange r (length rows) → IsBinarySearchResult (λ row. destination_cmp row.0 dst) rows r
+    → r ≡ place_of rows (key_to origin dst)
+placed_by_search origin rows dst r costs within found =
+    place_from_search rows (key_to origin dst) r costs.sorted within (by r within found)
   where
-    kept : not (is_gt (key_cmp low row.0)) ≡ true → rows_from (rows_from rows low) high ≡ rows_from rows high
-        → rows_from (rows_from (row ∷ rows) low) high ≡ rows_from (row ∷ rows) high
-    kept e below = rw e (at (is_gt (key_cmp high row.0)) refl)
-      where
-        at : (b : Bool) → is_gt (key_cmp high row.0) ≡ b → rows_from (row ∷ rows_from rows low) high ≡ rows_from (row ∷ rows) high
-        at true f = rw f below
-        at false f = rw f (ap (λ (more : Rows). row ∷ more) below)
+    same : (k : ℕ) (d : Key × Value) → k < length rows
+        → destination_cmp (get_or rows k d).0 dst ≡ key_cmp (get_or rows k d).0 (key_to origin dst)
+    same k d inside = destination_orders origin (get_or rows k d).0 dst (costs.shared k d inside)
 
-    by : rows_from (rows_from rows low) high ≡ rows_from rows high → (o : Ordering) → key_cmp low row.0 ≡ o
-        → rows_from (rows_from (row ∷ rows) low) high ≡ rows_from (row ∷ rows) high
-    by below Less e = kept (rw e refl) below
-    by below Equal e = kept (rw e refl) below
-    by below Greater e =
-        let back : key_cmp row.0 low ≡ Less = greater_back low row.0 e in
-        let passed : key_cmp high row.0 ≡ Greater = less_back row.0 high (key_cmp_total.trans row.0 low high back less) in
-        rw (e, passed) below
+    by : (r : Result ℕ ℕ) → IsSearchInRange r (length rows)
+        → IsBinarySearchResult (λ row. destination_cmp row.0 dst) rows r
+        → IsBinarySearchResult (λ (row : Key × Value). key_cmp row.0 (key_to origin dst)) rows r
+    by (Ok at) inside tie = λ d. sym (same at d inside) ∙ tie d
+    by (Err at) inside point = λ rise.
+        let cut = point (λ i j d low high.
+        rw (same i d (omega (arith, low, high)), same j d high) (rise i j d low high)) in (
+          λ k d low high. sym (same k d (omega (arith, high, inside))) ∙ cut.0 k d low high,
+          λ k d low high. sym (same k d high) ∙ cut.1 k d low high,
+        )
 
--- no run leads to any key
-pub leads_none : (rows : Rows) (at : Key) → Leads rows [] at
-unfolding IsStrictlySortedBy
-leads_none rows at = record { rest = rows; whole = refl; sorted = tt }
+-- the first row has a key's value where its destination is the key's
+pub first_told : (origin : OriginData) (rows : Rows) (dst : Name) (row : Key × Value) (b : Bool) → AreCosts origin rows
+    → Some row ≡ slice_get rows 0 → is_eq (destination_cmp row.0 dst) ≡ b
+    → first_value rows (key_to origin dst) ≡ cond b (Some row.1) None
+first_told origin [] dst row b costs first same = cc
+first_told origin (next ∷ rows) dst row b costs first same =
+    let one : next ≡ row = cc in
+    let shared : is_in (costs_of origin) row.0 ≡ true = rw one at (costs.shared 0 next (omega arith)) in
+    rw (one, ← destination_orders origin row.0 dst shared, same) refl
 
--- a run of the rows from a key on leads to a later one
-leads_on : (rows run : Rows) (low high : Key) → AreSorted rows → key_cmp low high ≡ Less → IsRunOf (rows_from rows low) run → Leads rows run high
-leads_on rows run low high s less r =
+-- ---- what a run that leads to a destination tells
+
+-- the value behind some rows
+value_behind : (front : Rows) (row : Key × Value) (back : Rows)
+    → option_map (λ (there : Key × Value). there.1) (slice_get (front ++ row ∷ back) (length front)) ≡ Some row.1
+value_behind [] row back = refl
+value_behind (first ∷ front) row back = value_behind front row back
+
+-- two names that are one don't differ
+itself : (dst : Name) → is_gt (name_cmp dst dst) ≡ false
+itself dst = ap is_gt (name_cmp_itself dst)
+
+-- the cost at the destination's place
+pub cost_found : (rows : Rows) (origin : OriginData) (run : RunData) (dst : Name) (at : ℕ) → Leads rows origin run dst
+    → place_of run.rows (key_to origin dst) ≡ Ok at
+    → number_at (option_map (λ (row : Key × Value). row.1) (slice_get run.rows at)) ≡ cost_to rows origin dst
+cost_found rows origin run dst at leads place =
+    by (found_from_place run.rows (key_to origin dst) at (sorted_left run.rows leads.rest leads.sorted) place)
+  where
+    own : Key
+    own = key_to origin dst
+
+    by : IsFound run.rows own at
+        → number_at (option_map (λ (row : Key × Value). row.1) (slice_get run.rows at)) ≡ cost_to rows origin dst
+    by f =
+        let all : run.rows ++ leads.rest ≡ f.front ++ (own, f.value) ∷ (f.back ++ leads.rest) =
+        rw f.whole (append_assoc f.front ((own, f.value) ∷ f.back) leads.rest) in
+        let value : value_of (run.rows ++ leads.rest) own ≡ Some f.value =
+        rw all (value_of-middle f.front (own, f.value) (f.back ++ leads.rest) (rw all at leads.sorted)) in
+        rw (f.whole, f.place, value_behind f.front (own, f.value) f.back)
+        (sym (leads.told dst (itself dst) ∙ ap number_at value))
+
+-- none where its row is missing before the run's end, or nothing is behind that
+pub cost_missing : (rows : Rows) (origin : OriginData) (run : RunData) (dst : Name) (at : ℕ) → Leads rows origin run dst
+    → place_of run.rows (key_to origin dst) ≡ Err at → (at < length run.rows) ⊎ (run.is_last ≡ true)
+    → cost_to rows origin dst ≡ None
+cost_missing rows origin run dst at leads place ends =
+    leads.told dst (itself dst)
+    ∙ ap number_at (by (missing_from_place run.rows own at (sorted_left run.rows leads.rest leads.sorted) place) ends)
+  where
+    own : Key
+    own = key_to origin dst
+
+    none : (front back : Rows) → run.rows ≡ front ++ back → at ≡ length front → AreBefore own front → ArePast own back
+        → at < length run.rows → value_of (run.rows ++ leads.rest) own ≡ None
+    none front [] whole place before past within =
+        let long : length run.rows ≡ length front + 0 = ap length whole ∙ length-append front [] in
+        absurd (omega (arith, long, place, within))
+    none front (row ∷ back) whole place before past within =
+        let all : run.rows ++ leads.rest ≡ front ++ row ∷ (back ++ leads.rest) =
+        rw whole (append_assoc front (row ∷ back) leads.rest) in
+        let behind : ArePast row.0 (back ++ leads.rest) =
+        past_middle front row (back ++ leads.rest) (rw all at leads.sorted) in
+        rw all
+        (value_of-before own front (row ∷ (back ++ leads.rest)) before
+        ∙ value_of-past own (row ∷ (back ++ leads.rest))
+        (past.0, past_lesser own row.0 past.0 (back ++ leads.rest) behind))
+
+    by : IsMissing run.rows own at → (at < length run.rows) ⊎ (run.is_last ≡ true)
+        → value_of (run.rows ++ leads.rest) own ≡ None
+    by m (inl within) = none m.front m.back m.whole m.place m.before m.past within
+    by m (inr last) = rw (leads.last last, append-nil run.rows) (value_of-missing run.rows own at m)
+
+-- ---- runs that lead on
+
+-- what is before a key is before a later one
+before_later : (low high : Key) → is_gt (key_cmp low high) ≡ false → (rows : Rows) → AreBefore low rows
+    → AreBefore high rows
+before_later low high later [] h = tt
+before_later low high later (row ∷ rows) h = (by (key_cmp low high) refl, before_later low high later rows h.1)
+  where
+    by : (o : Ordering) → key_cmp low high ≡ o → key_cmp high row.0 ≡ Greater
+    by Less e = less_back row.0 high (key_cmp_total.trans row.0 low high (greater_back low row.0 h.0) e)
+    by Equal e = let same : low ≡ high = key_cmp_exact low high e in rw (← same) h.0
+    by Greater e = let both : is_gt Greater ≡ false = rw e at later in cc
+
+-- a run leads on without first rows that are before the destination
+leads_without : (rows : Rows) (origin : OriginData) (run : RunData) (dst : Name) (front back : Rows)
+    → Leads rows origin run dst
+    → run.rows ≡ front ++ back → AreBefore (key_to origin dst) front
+    → Leads rows origin (record { rows = drop (length front) run.rows; is_last = run.is_last }) dst
+leads_without rows origin run dst front back leads whole before =
+    let left : drop (length front) run.rows ≡ back = rw whole (drop-append_seam front back) in
+    let all : run.rows ++ leads.rest ≡ front ++ (back ++ leads.rest) = rw whole (append_assoc front back leads.rest) in
     record {
-      rest = r.rest;
-      whole = sym (later_from low high less rows) ∙ ap (λ (all : Rows). rows_from all high) r.whole;
-      sorted = sorted_left run r.rest (rw r.whole at (sorted_rows_from rows low s));
+      rest = leads.rest;
+      told = λ next later.
+          leads.told next later
+          ∙ ap number_at (rw (left, all) (value_of-before (key_to origin next) front (back ++ leads.rest)
+          (before_later (key_to origin dst) (key_to origin next) (rw (key_order origin dst next) later) front before)));
+      sorted = rw left (sorted_right front (back ++ leads.rest) (rw all at leads.sorted));
+      shared =
+          All-drop (λ (row : Key × Value). is_in (costs_of origin) row.0 ≡ true) (length front) run.rows leads.shared;
+      last = leads.last;
     }
 
--- the rest of a run that leads to a key is a run of the rows from it on
-pub run_left : (rows run tail : Rows) (at : Key) → Leads rows run at → tail ≡ rows_from run at → (tail ≡ [] → ⊥) → IsRunOf (rows_from rows at) tail
-run_left rows run tail at leads is some =
-    record {
-      rest = rows_from leads.rest at;
-      whole = leads.whole ∙ (filter-append (λ row. not (is_gt (key_cmp at row.0))) run leads.rest ∙ ap (λ (first : Rows). first ++ rows_from leads.rest at) (sym is));
-      some = λ none. absurd (some none);
-    }
+-- so it does from the destination's place on
+pub leads_at : (rows : Rows) (origin : OriginData) (run : RunData) (dst : Name) (at : ℕ) → Leads rows origin run dst
+    → (Ok at ≡ place_of run.rows (key_to origin dst)) ⊎ (Err at ≡ place_of run.rows (key_to origin dst))
+    → Leads rows origin (record { rows = drop at run.rows; is_last = run.is_last }) dst
+leads_at rows origin run dst at leads = by
+  where
+    own : Key
+    own = key_to origin dst
+
+    sorted : AreSorted run.rows
+    sorted = sorted_left run.rows leads.rest leads.sorted
+
+    found : IsFound run.rows own at → Leads rows origin (record { rows = drop at run.rows; is_last = run.is_last }) dst
+    found f =
+        let split : AreSorted (f.front ++ (own, f.value) ∷ f.back) = rw f.whole at sorted in
+        rw f.place (leads_without rows origin run dst f.front ((own, f.value) ∷ f.back) leads f.whole
+        (before_middle f.front (own, f.value) f.back split))
+
+    missing : IsMissing run.rows own at
+        → Leads rows origin (record { rows = drop at run.rows; is_last = run.is_last }) dst
+    missing m = rw m.place (leads_without rows origin run dst m.front m.back leads m.whole m.before)
+
+    by : (Ok at ≡ place_of run.rows own) ⊎ (Err at ≡ place_of run.rows own)
+        → Leads rows origin (record { rows = drop at run.rows; is_last = run.is_last }) dst
+    by (inl place) = found (found_from_place run.rows own at sorted (sym place))
+    by (inr place) = missing (missing_from_place run.rows own at sorted (sym place))
+
+-- its rows are costs from the origin
+pub run_costs : (rows : Rows) (origin : OriginData) (run : RunData) (dst : Name) → Leads rows origin run dst
+    → AreCosts origin run.rows
+run_costs rows origin run dst leads =
+    record { sorted = sorted_left run.rows leads.rest leads.sorted; shared = leads.shared }
 
 -- a run leads to the first of the destinations that are left, if there is one
-abbrev pub Ready : Rows → OriginData → Rows → List Name → Type 0
+abbrev pub Ready : Rows → OriginData → RunData → List Name → Type 0
 Ready rows origin run [] = Unit {0}
-Ready rows origin run (dst ∷ dsts) = Leads rows run (key_to origin dst)
+Ready rows origin run (dst ∷ dsts) = Leads rows origin run dst
 
-pub ready_first : (rows : Rows) (origin : OriginData) (dsts : List Name) → Ready rows origin [] dsts
-ready_first rows origin [] = tt
-ready_first rows origin (dst ∷ dsts) = leads_none rows (key_to origin dst)
+-- no rows lead to any destination
+pub ready_first : (rows : Rows) (origin : OriginData) (dsts : List Name) → AreSorted rows
+    → Ready rows origin (record { rows = []; is_last = false }) dsts
+ready_first rows origin [] s = tt
+ready_first rows origin (dst ∷ dsts) s =
+    record {
+      rest = rows;
+      told = λ next later. refl;
+      sorted = s;
+      shared = λ k d within. absurd (omega arith);
+      last = λ last. cc;
+    }
 
-pub ready_next : (rows : Rows) (origin : OriginData) (run : Rows) (dst : Name) (dsts : List Name) → AreSorted rows → IsRunOf (rows_from rows (key_to origin dst)) run
+-- what leads to a destination leads to the one behind it
+pub ready_next : (rows : Rows) (origin : OriginData) (run : RunData) (dst : Name) (dsts : List Name)
+    → Leads rows origin run dst
     → IsStrictlySortedBy (slice_cmp nat_cmp) (dst ∷ dsts) → Ready rows origin run dsts
 unfolding IsStrictlySortedBy
-ready_next rows origin run dst [] s r rise = tt
-ready_next rows origin run dst (next ∷ dsts) s r rise = leads_on rows run (key_to origin dst) (key_to origin next) s (key_less origin dst next rise.0.0) r
-
--- ---- the value at a key
-
--- what is neither equal nor greater is less
-less_left : (o : Ordering) → is_eq o ≡ false → is_gt o ≡ false → o ≡ Less
-less_left Less e g = refl
-less_left Equal e g = cc
-less_left Greater e g = cc
-
--- among rows from a key on the first is the key's, or the key has none
-first_tells : (rows : Rows) (at : Key) → AreSorted rows → AreFrom at rows → first_value rows at ≡ value_of rows at
-first_tells [] at s from = refl
-first_tells (row ∷ rows) at s from = rw (same_key_back row.0 at) (by (is_eq (key_cmp at row.0)) refl)
+ready_next rows origin run dst [] leads rise = tt
+ready_next rows origin run dst (next ∷ dsts) leads rise =
+    record {
+      rest = leads.rest;
+      told = λ other later. leads.told other (by other later (name_cmp next other) refl);
+      sorted = leads.sorted;
+      shared = leads.shared;
+      last = leads.last;
+    }
   where
-    by : (b : Bool) → is_eq (key_cmp at row.0) ≡ b → cond (is_eq (key_cmp at row.0)) (Some row.1) None ≡ value_of (row ∷ rows) at
-    by true e = rw e refl
-    by false e =
-        let less : key_cmp at row.0 ≡ Less = less_left (key_cmp at row.0) e from.0 in
-        rw e (sym (value_of-past at rows (past_lesser at row.0 less rows (past_first row rows s))))
-
--- a run begins as all
-first_of_run : (all run : Rows) (at : Key) → IsRunOf all run → first_value run at ≡ first_value all at
-first_of_run all [] at r = rw (r.some refl) refl
-first_of_run all (row ∷ run) at r = rw r.whole refl
-
--- the first row of a run of the rows from a key on tells the key's value
-pub run_tells : (rows run : Rows) (at : Key) → AreSorted rows → IsRunOf (rows_from rows at) run → first_value run at ≡ value_of rows at
-run_tells rows run at s r =
-    first_of_run (rows_from rows at) run at r
-    ∙ (first_tells (rows_from rows at) at (sorted_rows_from rows at s) (from_rows_from rows at)
-    ∙ (value_of-rows_from rows at at ∙ rw (key_cmp_itself at) refl))
-
--- so does its number, of the cost to a destination
-pub cost_told : (rows run : Rows) (origin : OriginData) (dst : Name) → AreSorted rows → IsRunOf (rows_from rows (key_to origin dst)) run
-    → number_at (first_value run (key_to origin dst)) ≡ cost_to rows origin dst
-cost_told rows run origin dst s r = ap number_at (run_tells rows run (key_to origin dst) s r)
-
--- ---- a guess
-
--- the rows from a key on stand from the place of its row on
-pub drop_at_guess : (rows : Rows) (at : Key) (place : ℕ) (row : Key × Value) → AreSorted rows → place < length rows → row ≡ get_or rows place row
-    → is_eq (key_cmp row.0 at) ≡ true → drop place rows ≡ rows_from rows at
-drop_at_guess rows at place row s within is same = sym (rows_from-found rows at place (found_at rows at place row within is same) s)
+    by : (other : Name) → is_gt (name_cmp next other) ≡ false → (o : Ordering) → name_cmp next other ≡ o
+        → is_gt (name_cmp dst other) ≡ false
+    by other later Less e = ap is_gt (nat_list_cmp_total.trans dst next other rise.0.0 e)
+    by other later Equal e = let same : next ≡ other = name_cmp_exact next other e in rw (← same, rise.0.0) refl
+    by other later Greater e = let both : is_gt Greater ≡ false = rw e at later in cc

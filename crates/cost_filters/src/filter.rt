@@ -34,8 +34,9 @@ use std::alloc::{AllocError, Global};
 ///
 /// For each ordinal type one walk over its metric's rows and one sort of their costs. For each source that is asked for
 /// and each type that is asked for or tested one search for each run of the store in which rows of the asked
-/// destinations lie, and for each destination one comparison where the rows of the sources before lay alike, else one
-/// binary search in a run. Where all destinations are asked for, also one walk over the source's rows.
+/// destinations lie, and for each destination one comparison of two names where the rows of the sources before lay
+/// alike, else one binary search in a run by such comparisons. Where all destinations are asked for, also one walk over
+/// the source's rows.
 pub fn filter_cost_text<R: RowStore>(
     alloc: Global,
     rows: &R,

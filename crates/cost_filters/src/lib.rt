@@ -19,6 +19,7 @@ mod names;
 mod origin;
 mod pairs;
 mod picks;
+mod run;
 mod table;
 mod types;
 mod writing;

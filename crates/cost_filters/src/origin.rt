@@ -1,18 +1,18 @@
 //! The costs in a metric from a source, found in runs of rows that lie together.
-ghost use Rattle.std.specs.Prelude.{◌≡◌, ◌≤◌, [], true, IfOk, drop, length, map};
-ghost use Rattle.std.specs.List.Sorted.{IsSearchInRange, IsStrictlySortedBy};
+ghost use Rattle.std.specs.Prelude.{◌≡◌, IfOk, map, not};
+ghost use Rattle.std.specs.List.Sorted.{IsStrictlySortedBy};
 ghost use Rattle.std.specs.Cmp.Lexicographic.{slice_cmp};
-ghost use Rattle.std.specs.Ordering.{is_eq, nat_cmp, ordering_then};
-ghost use Rattle.alto_rows.specs.Order.{key_cmp, name_cmp};
-ghost use Rattle.alto_rows.specs.Place.{place_of};
-ghost use Rattle.alto_rows.specs.Rows.{AreSorted, IsRunOf, rows_from};
+ghost use Rattle.std.specs.Ordering.{nat_cmp};
+ghost use Rattle.alto_rows.specs.Rows.{AreSorted};
+ghost use Rattle.alto_rows.specs.Span.{is_in, rows_in};
+ghost use Rattle.alto_rows.specs.Within.{ComeFirst};
 ghost use Rattle.cost_docs.specs.CostMap.{number_at};
-ghost use Rattle.cost_filters.specs.Runs.{Leads, cost_to, first_value, key_to};
+ghost use Rattle.cost_filters.specs.Runs.{Leads, cost_to, costs_of, ends_in, first_value, key_to};
 
+use crate::run::Run;
 use alto_names::{Metric, NetName, PidName};
 use alto_rows::{Key, RowStore, Value};
 use std::alloc::{AllocError, Global};
-use std::cmp::Ordering;
 use std::marker::Model;
 
 /// What the costs from a source are looked up by: a network, a metric and the source.
@@ -40,8 +40,9 @@ impl<'a> Origin<'a> {
     }
 
     /// The costs to destinations in byte order, one for each. The gaps guess how many rows lie between the rows of
-    /// two destinations that follow one another, and become those that were found: where they are right a destination
-    /// costs one comparison, else a binary search in a run, and each further run costs one search.
+    /// two destinations that follow one another, and become those that were found: where one is right a destination
+    /// costs one comparison of names, else a binary search in a run. Each run of the store in which rows from here lie
+    /// costs one search, and the last of them at most one more.
     pub(crate) fn costs_to<R: RowStore>(
         &self,
         alloc: Global,
@@ -55,138 +56,97 @@ impl<'a> Origin<'a> {
     {
         let mut costs = Vec::with_capacity(alloc, dsts.len())?;
         let mut found = Vec::with_capacity(alloc, dsts.len())?;
-        let mut run: &[(Key, Value)] = &[];
+        let mut run = Run::new(&[], false);
         for dst in dsts {
-            let mut gap = gap_at(gaps, costs.len());
-            run = self.run_to(rows, run, dst, &mut gap)?;
-            costs.push(self.first_cost(run, dst))?;
-            found.push(gap)?;
+            let step = self.step_to(rows, run, dst, gap_at(gaps, costs.len()))?;
+            costs.push(step.cost)?;
+            found.push(step.gap)?;
+            run = step.run;
         }
         *gaps = found;
         Ok(costs)
     }
 
-    /// The rows from a cost's key on that lie together: in this run or, where that is used up, in the next.
-    fn run_to<'r, R: RowStore>(
+    /// Looks for a destination in a run that leads to it or, where all its rows stand before, in the next.
+    fn step_to<'r, R: RowStore>(
         &self,
         rows: &'r R,
-        run: &'r [(Key, Value)],
+        run: Run<'r>,
         dst: &PidName,
-        gap: &mut usize,
-    ) -> Result<&'r [(Key, Value)], AllocError>
-        requires { Leads (R.rows rows.now) run.now (key_to self.now dst.now) }
-        ensures { IfOk result (λ run. IsRunOf (rows_from (R.rows rows.now) (key_to self.now dst.now)) run.now) }
+        guess: usize,
+    ) -> Result<Step<'r>, AllocError>
+        requires { Leads (R.rows rows.now) self.now run dst.now }
+        ensures cost { IfOk result (λ step. step.cost ≡ cost_to (R.rows rows.now) self.now dst.now) }
+        ensures leads { IfOk result (λ step. Leads (R.rows rows.now) self.now step.run dst.now) }
     {
-        let at = self.place(run, dst, *gap);
-        let tail = &run[at..];
-        if tail.is_empty() {
-            return Ok(rows.run_from(&self.key_to(dst)?));
-        }
-        *gap = at;
-        Ok(tail)
-    }
-
-    /// The number of the first row, if it is the cost's.
-    fn first_cost(&self, run: &[(Key, Value)], dst: &PidName) -> Option<u64>
-        ensures { result ≡ number_at (first_value run.now (key_to self.now dst.now)) }
-    {
-        let row = run.first()?;
-        if !self.is_at(&row.0, dst) {
-            return None;
-        }
-        match row.1 {
-            Value::Num(cost) => Some(cost),
-            _ => None,
-        }
-    }
-
-    /// From which place on a run has the rows from a cost's key on. One comparison where the guess is the place of the
-    /// cost's own row, two where the run ends before it, else one binary search.
-    fn place(&self, run: &[(Key, Value)], dst: &PidName, guess: usize) -> usize
-        requires { AreSorted run.now }
-        ensures rows { drop result run.now ≡ rows_from run.now (key_to self.now dst.now) }
-        ensures within { result ≤ length run.now }
-    {
-        if let Some(row) = run.get(guess) {
-            if self.is_at(&row.0, dst) {
-                return guess;
+        match run.place(dst, guess) {
+            Ok(at) => Ok(Step {
+                cost: run.cost_at(at),
+                gap: at,
+                run: run.from(at),
+            }),
+            Err(at) => {
+                if run.tells_none(at) {
+                    return Ok(Step {
+                        cost: None,
+                        gap: at,
+                        run: run.from(at),
+                    });
+                }
+                let run = self.run_to(rows, dst)?;
+                Ok(Step {
+                    cost: run.first_cost(dst),
+                    gap: guess,
+                    run,
+                })
             }
         }
-        if self.is_used_up(run, dst) {
-            return run.len();
-        }
-        match self.search(run, dst) {
-            Ok(at) | Err(at) => at,
-        }
     }
 
-    /// Whether the last row of a run stands before that of a cost, so that none is at it or behind. One comparison.
-    fn is_used_up(&self, run: &[(Key, Value)], dst: &PidName) -> bool
-        requires { AreSorted run.now }
-        ensures { result ≡ true → rows_from run.now (key_to self.now dst.now) ≡ [] }
+    /// The rows from here that lie together, from a destination's on. One search of the store.
+    fn run_to<'r, R: RowStore>(&self, rows: &'r R, dst: &PidName) -> Result<Run<'r>, AllocError>
+        ensures leads { IfOk result (λ run. Leads (R.rows rows.now) self.now run dst.now) }
+        ensures first { IfOk result (λ run. number_at (first_value run.rows (key_to self.now dst.now))
+            ≡ cost_to (R.rows rows.now) self.now dst.now) }
     {
-        match run.last() {
-            Some(row) => self.cmp(&row.0, dst).is_lt(),
-            None => true,
+        Ok(self.cut(rows.run_from(&self.key_to(dst)?)))
+    }
+
+    /// Those of rows that are costs from here, which come first. Looks at the last row; where that isn't one, one
+    /// binary search.
+    fn cut<'r>(&self, rows: &'r [(Key, Value)]) -> Run<'r>
+        requires { ComeFirst (costs_of self.now) rows.now }
+        ensures { result ≡ record {
+          rows = rows_in rows.now (costs_of self.now);
+          is_last = not (ends_in (costs_of self.now) rows.now);
+        } }
+    {
+        if self.has_last(rows) {
+            return Run::new(rows, false);
+        }
+        let end = rows.partition_point(|row| self.is_from(&row.0));
+        Run::new(&rows[..end], true)
+    }
+
+    /// Whether the last of rows is a cost from here.
+    fn has_last(&self, rows: &[(Key, Value)]) -> bool
+        ensures { result ≡ ends_in (costs_of self.now) rows.now }
+    {
+        match rows.last() {
+            Some(row) => self.is_from(&row.0),
+            None => false,
         }
     }
 
-    /// The place of a cost's row in a run, or where it would go. One binary search.
-    fn search(&self, run: &[(Key, Value)], dst: &PidName) -> Result<usize, usize>
-        requires { AreSorted run.now }
-        ensures place { result ≡ place_of run.now (key_to self.now dst.now) }
-        ensures within { IsSearchInRange result (length run.now) }
-    {
-        run.binary_search_by(|row| self.cmp(&row.0, dst))
-    }
-
-    /// Where a key stands against that of a cost.
-    #[tactic(auto, unfolding(alto_rows::specs::Order::key_cmp))]
-    fn cmp(&self, key: &Key, dst: &PidName) -> Ordering
-        ensures { result ≡ key_cmp key.now (key_to self.now dst.now) }
-    {
-        match key {
-            Key::Cost(net, metric, src, to) => match self.cmp_map(net, metric) {
-                Ordering::Equal => self.cmp_pair(src, to, dst),
-                apart => apart,
-            },
-            Key::Epoch
-            | Key::Window
-            | Key::Net(_)
-            | Key::Pid(_, _)
-            | Key::Prefix(_, _, _)
-            | Key::Metric(_, _) => Ordering::Less,
-            _ => Ordering::Greater,
-        }
-    }
-
-    /// Where a network and a metric stand against these.
-    fn cmp_map(&self, net: &NetName, metric: &Metric) -> Ordering
-        ensures { result ≡ ordering_then (name_cmp net.now self.now.net) (name_cmp metric.now self.now.metric) }
-    {
-        match net.cmp(self.net) {
-            Ordering::Equal => metric.cmp(self.metric),
-            apart => apart,
-        }
-    }
-
-    /// Where two PIDs stand against the source and a destination.
-    fn cmp_pair(&self, src: &PidName, to: &PidName, dst: &PidName) -> Ordering
-        ensures { result ≡ ordering_then (name_cmp src.now self.now.src) (name_cmp to.now dst.now) }
-    {
-        match src.cmp(self.src) {
-            Ordering::Equal => to.cmp(dst),
-            apart => apart,
-        }
-    }
-
-    /// Whether a key is that of a cost. Looks first at the destination, which tells most keys apart.
-    #[tactic(auto, unfolding(alto_rows::specs::Order::key_cmp))]
-    fn is_at(&self, key: &Key, dst: &PidName) -> bool
-        ensures { result ≡ is_eq (key_cmp key.now (key_to self.now dst.now)) }
+    /// Whether a key is of a cost from here. Looks first at the source, which tells most keys apart.
+    #[tactic(auto, using(crate::proofs::RunLemmas::last_first))]
+    fn is_from(&self, key: &Key) -> bool
+        ensures { result ≡ is_in (costs_of self.now) key.now }
     {
         match key {
-            Key::Cost(_, _, _, to) => to == dst && self.cmp(key, dst).is_eq(),
+            Key::Cost(net, metric, src, _) => {
+                self.src == src && (self.net == net && self.metric == metric)
+            }
             _ => false,
         }
     }
@@ -202,6 +162,16 @@ impl<'a> Origin<'a> {
             dst.clone()?,
         ))
     }
+}
+
+/// What looking for a destination gives.
+#[derive(Drop)]
+struct Step<'r> {
+    cost: Option<u64>,
+    /// How many rows of the run lay before its row.
+    gap: usize,
+    /// The rows from there on.
+    run: Run<'r>,
 }
 
 /// The gap at a place, 0 where there is none.

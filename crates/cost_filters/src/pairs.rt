@@ -93,10 +93,10 @@ impl<'a, R: RowStore> Pairs<'a, R> {
     /// The pairs of a source with destinations in byte order.
     ///
     /// For each type that is asked for or tested one search for each run of the store in which rows of these
-    /// destinations lie, and for each destination one comparison where the gaps are right, else a binary search in
-    /// the run. The gaps guess how many rows lie between those of two destinations that follow one another, and become
-    /// what was found: so they are handed on from source to source. Where no constraint tests a pair, no tested type
-    /// costs anything.
+    /// destinations lie, and for each destination one comparison of two names where the gaps are right, else a binary
+    /// search in the run by such comparisons. The gaps guess how many rows lie between those of two destinations that
+    /// follow one another, and become what was found: so they are handed on from source to source. Where no constraint
+    /// tests a pair, no tested type costs anything.
     pub fn from(
         &self,
         alloc: Global,

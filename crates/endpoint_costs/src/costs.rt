@@ -31,7 +31,8 @@ use std::alloc::{AllocError, Global};
 /// For each ordinal type one walk over its metric. For each address one look-up in the table, and one sort of the
 /// addresses. Then the distinct PIDs make their pairs once: for each of the sources and each type that is asked for or
 /// tested one search for each run of the store in which rows of the destinations lie, and for each destination one
-/// comparison where the rows of the sources before lay alike, else one binary search in a run.
+/// comparison of two names where the rows of the sources before lay alike, else one binary search in a run by such
+/// comparisons.
 pub fn endpoint_cost_text<R: RowStore>(
     alloc: Global,
     rows: &R,

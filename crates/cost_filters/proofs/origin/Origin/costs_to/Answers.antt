@@ -8,13 +8,15 @@ use Rattle.std.specs.Ordering.{nat_cmp}
 use Rattle.std.proofs.lemmas.Map.Keys.{sorted_tail}
 use Rattle.alto_maps.specs.Shape.{Name}
 use Rattle.cost_filters.specs.Runs.{cost_to}
-use Rattle.cost_filters.proofs.RunLemmas.{cost_told, ready_first, ready_next}
+use Rattle.cost_filters.proofs.RunLemmas.{ready_first, ready_next}
 use Rattle.cost_filters.proofs.origin.Origin.costs_to.Goals as goal
 
 pub loop-dst-init : goal.loop-dst-init
 loop-dst-init g c = record {
   costs = rw c.in_ok-costs.ensures.items refl;
-  ready = ready_first (g.R.RowStore.rows c.args.rows.now) c.args.self.now c.args.dsts.now;
+  ready =
+      rw c.new-run.ensures
+      (ready_first (g.R.RowStore.rows c.args.rows.now) c.args.self.now c.args.dsts.now c.requires.sorted);
   rise = c.requires.rise;
 }
 
@@ -28,15 +30,13 @@ loop-dst-preserved g c =
     let step : drop l.dst-index c.args.dsts.now ≡ dst ∷ left =
     rw (drop_more c.args.dsts.now l.dst-index dst c.loop-dst-test.true, ← c.dst-item.is) refl in
     let rise : IsStrictlySortedBy (slice_cmp nat_cmp) (dst ∷ left) = subst (λ (names : List Name). IsStrictlySortedBy (slice_cmp nat_cmp) names) step l.invariant.rise in
-    let told : c.first_cost.result ≡ cost_to rows origin dst =
-    c.first_cost.ensures ∙ cost_told rows c.in_ok-run.run'.now origin dst c.requires.sorted c.in_ok-run.ensures in
-    let pushed : c.push.new.self.items ≡ l.costs.items ++ c.first_cost.result ∷ [] = search rules in
+    let pushed : c.push.new.self.items ≡ l.costs.items ++ c.in_ok-step.step.cost ∷ [] = search rules in
     record {
       costs =
           ap (λ (items : List (Option ℕ)). items ++ map (cost_to rows origin) left) pushed
-          ∙ (append_assoc l.costs.items (c.first_cost.result ∷ []) (map (cost_to rows origin) left)
-          ∙ (ap (λ (found : Option ℕ). l.costs.items ++ found ∷ map (cost_to rows origin) left) told
+          ∙ (append_assoc l.costs.items (c.in_ok-step.step.cost ∷ []) (map (cost_to rows origin) left)
+          ∙ (ap (λ (found : Option ℕ). l.costs.items ++ found ∷ map (cost_to rows origin) left) c.in_ok-step.ensures.cost
           ∙ (ap (λ (names : List Name). l.costs.items ++ map (cost_to rows origin) names) (sym step) ∙ l.invariant.costs)));
-      ready = ready_next rows origin c.in_ok-run.run'.now dst left c.requires.sorted c.in_ok-run.ensures rise;
+      ready = ready_next rows origin c.in_ok-step.step.run dst left c.in_ok-step.ensures.leads rise;
       rise = sorted_tail (slice_cmp nat_cmp) dst left rise;
     }
