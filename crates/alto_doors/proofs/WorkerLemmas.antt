@@ -5,9 +5,9 @@ use Rattle.alto_addr.specs.declared.addr.Addr.{Addr}
 use Rattle.alto_http.specs.Link.{one_more}
 use Rattle.alto_serve.specs.declared.end.End.{End}
 use Rattle.alto_serve.specs.Connections.{Serves, state}
-use Rattle.alto_serve.specs.Events.{Known, risen}
+use Rattle.alto_serve.specs.Events.{Known}
 use Rattle.alto_serve.specs.Turns.{Setting}
-use Rattle.alto_doors.specs.Door.{followed_by, is_served}
+use Rattle.alto_doors.specs.Door.{followed_by, is_served, risen}
 use Rattle.alto_doors.specs.Workers.{HasServed, IsLeft, ServesEach, taken}
 use Rattle.alto_doors.specs.declared.state.DoorState.{DoorState}
 

@@ -1,8 +1,13 @@
 -- What a call on a door does to the connections that it has still to give, and to its state.
-use Rattle.std.specs.Prelude.{◌≡◌, ℕ, Bool, true, false, not, ◌&&◌, ◌||◌, ◌==◌, nat_le, List, [], ◌++◌, Option, Some}
-use Rattle.std.specs.Prelude.{None, IfSome, Result, Ok, Err}
+use Rattle.std.specs.Prelude.{◌≡◌, ℕ, zero, suc, Bool, true, false, not, ◌&&◌, ◌||◌, ◌==◌, nat_le, List, [], ◌++◌}
+use Rattle.std.specs.Prelude.{Option, Some, None, IfSome, Result, Ok, Err}
 use Rattle.alto_http.specs.Link.{one_more}
 use Rattle.alto_doors.specs.declared.state.DoorState.{DoorState}
+
+-- a count after `times` more: it stops at the last number of 64 bits
+abbrev pub risen : ℕ → ℕ → ℕ
+risen count zero = count
+risen count (suc times) = one_more (risen count times)
 
 -- how many faults of a door end its worker
 abbrev pub most_faults : ℕ

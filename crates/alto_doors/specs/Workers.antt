@@ -5,9 +5,9 @@ use Rattle.alto_http.specs.Link.{one_more}
 use Rattle.alto_http.specs.declared.link.Failed.{Failed}
 use Rattle.alto_serve.specs.declared.end.End.{End}
 use Rattle.alto_serve.specs.Connections.{Serves, state}
-use Rattle.alto_serve.specs.Events.{Known, risen}
+use Rattle.alto_serve.specs.Events.{Known}
 use Rattle.alto_serve.specs.Turns.{Setting}
-use Rattle.alto_doors.specs.Door.{followed_by, most_faults}
+use Rattle.alto_doors.specs.Door.{followed_by, most_faults, risen}
 use Rattle.alto_doors.specs.declared.state.DoorState.{DoorState}
 
 -- a worker leaves a door after a number of failed accepts: the door has ended before they were as many as end a worker,

@@ -1,5 +1,5 @@
 -- What a seat does, as events.
-use Rattle.std.proofs.Common.{◌≡◌, ◌≢◌, ◌⊎◌, ℕ, false, List, [], ◌∷◌, ◌++◌, Result, Ok, Err, All, refl, sym, ap, subst, inl, inr, arith}
+use Rattle.std.proofs.Common.{◌≡◌, ◌≢◌, ◌⊎◌, ℕ, false, List, [], ◌∷◌, ◌++◌, Result, Ok, Err, All, refl, sym, ap, subst, inl, inr}
 use mathlib.Core.List.{IsPrefix}
 use Rattle.alto_edits.specs.Edits.{IsEdit}
 use Rattle.alto_book.specs.Acceptance.{accept}
@@ -74,41 +74,41 @@ pub seat_accepted : (opening : Book) (v mid w : View) (log : List Submitted) (im
 seat_accepted opening v mid w log import receipt waits faults counted entry lesson edits answered none =
     let book = book_at opening log in
     let after = log ++ import ∷ [] in (
-      entered book ∷ submitted import.0 import.1 0 (Ok receipt) (book_at opening after) ∷ [],
+      entered book ∷ submitted import.0 import.1 (Ok receipt) (book_at opening after) ∷ [],
       (
         look_on opening v.seen log entry.led entry.begins,
         (inl (edits, answered, look_same opening (accept book import.0 import.1).book after lesson.led (sym (book_more opening log import))), tt),
       ),
       rw (lesson.known, entry.known, none) refl,
-      (book, 0, book_at opening after, refl),
+      (book, book_at opening after, refl),
     )
 
 -- an import is refused, and the book stays
 refused : (opening : Book) (v w : View) (log : List Submitted) (import : Submitted) (why : EditFault) (waits faults counted : ℕ)
     → Sees opening after_entry v log w → All IsEdit import.0.edits
-    → (accept (book_at opening log) import.0 import.1).answer ≡ Err why → counted ≡ faults
+    → (accept (book_at opening log) import.0 import.1).answer ≡ Err why → counted ≡ after_edit {T = Receipt} (Err why) faults
     → Emits false (Submits import.0 import.1 (Err why)) (known_at opening v waits faults) (known_at opening w waits counted)
-refused opening v w log import why waits faults counted entry edits answered none =
+refused opening v w log import why waits faults counted entry edits answered count =
     let book = book_at opening log in (
-      entered book ∷ submitted import.0 import.1 0 (Err why) book ∷ [],
+      entered book ∷ submitted import.0 import.1 (Err why) book ∷ [],
       (
         look_on opening v.seen log entry.led entry.begins,
         (inl (edits, answered, look_same opening (accept book import.0 import.1).book log entry.led (refused_leaves book import.0 import.1 why answered)), tt),
       ),
-      rw (entry.known, none) refl,
-      (book, 0, book, refl),
+      rw (entry.known, count) refl,
+      (book, book, refl),
     )
 
--- its batch couldn't be kept, and a fault is counted
+-- its batch couldn't be kept
 unkept : (opening : Book) (v w : View) (log : List Submitted) (import : Submitted) (waits faults counted : ℕ)
     → Sees opening after_entry v log w → counted ≡ one_more faults
     → Emits false (Submits import.0 import.1 (Err fault.Keeper)) (known_at opening v waits faults) (known_at opening w waits counted)
 unkept opening v w log import waits faults counted entry one =
     let book = book_at opening log in (
-      entered book ∷ submitted import.0 import.1 1 (Err fault.Keeper) book ∷ [],
-      (look_on opening v.seen log entry.led entry.begins, (inr (refl, omega arith, look_same opening book log entry.led refl), tt)),
+      entered book ∷ submitted import.0 import.1 (Err fault.Keeper) book ∷ [],
+      (look_on opening v.seen log entry.led entry.begins, (inr (refl, look_same opening book log entry.led refl), tt)),
       rw (entry.known, one) refl,
-      (book, 1, book, refl),
+      (book, book, refl),
     )
 
 pub seat_refused : (opening : Book) (v w : View) (log : List Submitted) (import : Submitted) (why : EditFault) (waits faults counted : ℕ)
@@ -135,7 +135,7 @@ lost_unentered opening v import waits faults = (
   [],
   tt,
   refl,
-  (entered opening ∷ submitted import.0 import.1 0 (Err fault.Keeper) opening ∷ [], (Err fault.Keeper, (opening, 0, opening, refl))),
+  (entered opening ∷ submitted import.0 import.1 (Err fault.Keeper) opening ∷ [], (Err fault.Keeper, (opening, opening, refl))),
 )
 
 pub lost_entered : (opening : Book) (v w : View) (log : List Submitted) (import : Submitted) (waits faults counted : ℕ)
@@ -146,5 +146,5 @@ lost_entered opening v w log import waits faults counted entry none =
       entered book ∷ [],
       (look_on opening v.seen log entry.led entry.begins, tt),
       rw (entry.known, none) refl,
-      (submitted import.0 import.1 0 (Err fault.Keeper) book ∷ [], (Err fault.Keeper, (book, 0, book, refl))),
+      (submitted import.0 import.1 (Err fault.Keeper) book ∷ [], (Err fault.Keeper, (book, book, refl))),
     )

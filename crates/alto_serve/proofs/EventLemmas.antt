@@ -46,12 +46,12 @@ step_grown : (alone : Bool) (known : Known) (event : Event) → MayHappen alone 
     → IsGrown (known_after alone known event).seen known.seen
 step_grown alone known (looked book) may = may.grown
 step_grown alone known (entered book) may = may.grown
-step_grown alone known (submitted import moment faults answer book) (inl (edits, is, look)) = record {
+step_grown alone known (submitted import moment answer book) (inl (edits, is, look)) = record {
   imports = (import, moment) ∷ look.grown.imports;
   edits = All-cons IsInRange (import, moment) look.grown.imports edits look.grown.edits;
   whole = look.grown.whole;
 }
-step_grown alone known (submitted import moment faults answer book) (inr (is, some, look)) = look.grown
+step_grown alone known (submitted import moment answer book) (inr (is, look)) = look.grown
 step_grown alone known _ may = grown_itself known.seen
 
 pub history_grown : (alone : Bool) (known : Known) (events : List Event) → IsHistory alone known events

@@ -1,5 +1,5 @@
 -- The office over one desk.
-use Rattle.std.proofs.Common.{◌≡◌, ◌≢◌, ℕ, true, [], ◌∷◌, Result, Ok, Err, IfOk, IfErr, OnOk, OnErr, refl, sym, ◌∙◌, inl, inr, All, arith}
+use Rattle.std.proofs.Common.{◌≡◌, ◌≢◌, ℕ, true, [], ◌∷◌, Result, Ok, Err, IfOk, IfErr, OnOk, OnErr, refl, sym, ◌∙◌, inl, inr, All}
 use Rattle.alto_edits.specs.Edits.{IsEdit}
 use Rattle.alto_book.specs.Acceptance.{accept}
 use Rattle.alto_book.specs.Book.{Book}
@@ -25,19 +25,19 @@ look_same book look legal same =
 
 module _ (book later : Book) (import : Import) (moment looks waits faults after counted : ℕ) (legal : IsLegal book)
     (more : after ≡ one_more looks) where
-  -- an import is accepted or refused, and no fault is counted
-  decided : (r : Result Receipt EditFault) → All IsEdit import.edits → counted ≡ faults
+  -- an import is accepted or refused
+  decided : (r : Result Receipt EditFault) → All IsEdit import.edits → counted ≡ after_edit r faults
       → (accept book import moment).answer ≡ r → later ≡ (accept book import moment).book
       → Emits true (Submits import moment r) (solo_known book looks waits faults) (solo_known later after waits counted)
-  decided r edits none answered same =
+  decided r edits count answered same =
       let look = look_same _ later (accept_legal book import moment legal edits) same in (
-        entered book ∷ submitted import moment 0 r later ∷ [],
+        entered book ∷ submitted import moment r later ∷ [],
         (look_same book book legal refl, (inl (edits, answered, look), tt)),
-        rw (more, none) refl,
-        (book, 0, later, refl),
+        rw (more, count) refl,
+        (book, later, refl),
       )
 
-  -- or its batch couldn't be kept, and a fault is counted
+  -- or its batch couldn't be kept
   pub solo_submits : (r : Result Receipt EditFault) → All IsEdit import.edits → counted ≡ after_edit r faults
       → IfOk r (λ receipt. (accept book import moment).answer ≡ Ok receipt)
       → OnOk r (later ≡ (accept book import moment).book)
@@ -46,10 +46,10 @@ module _ (book later : Book) (import : Import) (moment looks waits faults after 
       → Emits true (Submits import moment r) (solo_known book looks waits faults) (solo_known later after waits counted)
   solo_submits (Ok receipt) edits count told gained refused stayed known = decided (Ok receipt) edits count told gained
   solo_submits (Err fault.Keeper) edits count told gained refused stayed known = (
-    entered book ∷ submitted import moment 1 (Err fault.Keeper) later ∷ [],
-    (look_same book book legal refl, (inr (refl, omega arith, look_same book later legal stayed), tt)),
+    entered book ∷ submitted import moment (Err fault.Keeper) later ∷ [],
+    (look_same book book legal refl, (inr (refl, look_same book later legal stayed), tt)),
     rw (more, count) refl,
-    (book, 1, later, refl),
+    (book, later, refl),
   )
   solo_submits (Err fault.Memory) edits count told gained refused stayed known = absurd (known refl)
   solo_submits (Err why) edits count told gained refused stayed known =
@@ -64,6 +64,6 @@ module _ (book later : Book) (import : Import) (moment looks waits faults after 
     entered book ∷ [],
     (look_same book book legal refl, tt),
     rw (stayed, more, count) refl,
-    (submitted import moment 0 (Err fault.Keeper) book ∷ [], (Err fault.Keeper, (book, 0, book, refl))),
+    (submitted import moment (Err fault.Keeper) book ∷ [], (Err fault.Keeper, (book, book, refl))),
   )
   solo_lost _ count stayed is = cc

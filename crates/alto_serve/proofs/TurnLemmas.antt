@@ -103,7 +103,7 @@ concludes_turn setting request book (answer.Hold of i j) told xs ys settled (non
     )
 concludes_turn setting request book (answer.Edit import) told xs ys settled (moment, decided, timely, some, same) =
     let ends : Reaches setting.client request (sees settled.left book) ys (has_answer moment decided) =
-    rw some.3 (submits import, (import, settled.answered, refl), (has_answer moment decided, (refl, refl), refl)) in
+    rw some.2 (submits import, (import, settled.answered, refl), (has_answer moment decided, (refl, refl), refl)) in
     (has_answer moment decided, (reaches_on setting.client request _ _ _ xs ys settled.reached ends, timely), same)
 
 module _ (alone : Bool) (setting : Setting) (request : RequestData) (before mid after : Known) where

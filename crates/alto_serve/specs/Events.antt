@@ -1,7 +1,6 @@
 -- What happens while a connection is served, event by event, and what is known of an office after each. An office is
 -- what a connection is served through (`src/office.rt`): it gives books, each of all batches accepted by then.
-use Rattle.std.specs.Prelude.{◌≡◌, ◌⊎◌, ◌<◌, ℕ, zero, suc, Bool, true, false, List, [], ◌∷◌, ◌++◌, fold, Result, Err}
-use Rattle.std.specs.Prelude.{All}
+use Rattle.std.specs.Prelude.{◌≡◌, ◌⊎◌, ℕ, Bool, true, false, List, [], ◌∷◌, ◌++◌, fold, Result, Err, All}
 use Rattle.alto_book.specs.Acceptance.{accept}
 use Rattle.alto_edits.specs.Edits.{IsEdit}
 use Rattle.alto_book.specs.Book.{Book, number_of}
@@ -10,6 +9,7 @@ use Rattle.alto_book.specs.Legal.{IsLegal}
 use Rattle.alto_book.specs.declared.command.Receipt.{Receipt}
 use Rattle.alto_book.specs.declared.fault.EditFault.{EditFault}
 use Rattle.alto_book.specs.declared.fault.EditFault.TheVariants as fault
+use Rattle.alto_desk.specs.Counts.{after_edit}
 use Rattle.alto_http.specs.Link.{one_more}
 
 -- ---- what happens
@@ -20,8 +20,8 @@ pub data Event : Type 0 where
   looked : Book → Event
   -- a book was looked at once more, to have an import accepted there
   entered : Book → Event
-  -- the import was answered: its timestamp, how often its batch couldn't be stored, the answer, the book seen then
-  submitted : Import → ℕ → ℕ → Result Receipt EditFault → Book → Event
+  -- the import was answered: its timestamp, the answer, and the book seen then
+  submitted : Import → ℕ → Result Receipt EditFault → Book → Event
   -- the office waited for more batches than this number; a wait may end before there are any
   waited : ℕ → Event
   -- bytes were written
@@ -44,8 +44,7 @@ OneWait n events = events ≡ waited n ∷ []
 -- an import with a timestamp is answered, at a book that is looked at once more for it
 abbrev pub Submits : Import → ℕ → Result Receipt EditFault → List Event → Type 0
 Submits import moment answer events =
-    (look : Book) × (faults : ℕ) × (after : Book)
-    × (events ≡ entered look ∷ submitted import moment faults answer after ∷ [])
+    (look : Book) × (after : Book) × (events ≡ entered look ∷ submitted import moment answer after ∷ [])
 
 -- an import with a timestamp is answered, no matter how
 abbrev pub IsSubmitted : Import → ℕ → List Event → Type 0
@@ -75,23 +74,19 @@ pub record Known : Type 0 where
 abbrev pub at_first : Book → Known
 at_first book = record { seen = book; looks = 0; waits = 0; faults = 0; looked_at = [] }
 
--- a count after `times` more: it stops at the last number of 64 bits
-abbrev pub risen : ℕ → ℕ → ℕ
-risen count zero = count
-risen count (suc times) = one_more (risen count times)
-
 -- numbers with that of a book. None is listed where nobody else can add imports: a look shows the book seen before
 abbrev pub listed : Bool → List ℕ → Book → List ℕ
 listed true numbers book = numbers
 listed false numbers book = numbers ++ number_of book ∷ []
 
--- what is known after an event. `alone` tells that nobody else can add imports while the connection is served
+-- what is known after an event. A batch that couldn't be stored is counted (`after_edit`). `alone` tells that nobody
+-- else can add imports while the connection is served
 abbrev pub known_after : Bool → Known → Event → Known
 known_after alone known (looked book) =
     record known { seen = book; looks = one_more known.looks; looked_at = listed alone known.looked_at book }
 known_after alone known (entered book) = record known { seen = book; looks = one_more known.looks }
-known_after alone known (submitted import moment faults answer book) =
-    record known { seen = book; faults = risen known.faults faults }
+known_after alone known (submitted import moment answer book) =
+    record known { seen = book; faults = after_edit answer known.faults }
 known_after alone known (waited n) = record known { waits = one_more known.waits }
 known_after alone known (wrote bytes) = known
 
@@ -116,15 +111,15 @@ pub record IsLook (alone : Bool) (seen look : Book) : Type 0 where
   pub same : alone ≡ true → look ≡ seen
 
 -- an event may happen where this book was seen last. A look shows a book that may be seen next. An import is accepted
--- or refused at the book seen last, or its batch couldn't be stored and that was counted; then a book is seen that may
--- be seen next. A wait and a write may always happen
+-- or refused at the book seen last, or its batch couldn't be stored; then a book is seen that may be seen next. A wait
+-- and a write may always happen
 abbrev pub MayHappen : Bool → Book → Event → Type 0
 MayHappen alone seen (looked book) = IsLook alone seen book
 MayHappen alone seen (entered book) = IsLook alone seen book
-MayHappen alone seen (submitted import moment faults answer book) =
+MayHappen alone seen (submitted import moment answer book) =
     (All IsEdit import.edits × ((accept seen import moment).answer ≡ answer)
     × IsLook alone (accept seen import moment).book book)
-    ⊎ ((answer ≡ Err fault.Keeper) × (0 < faults) × IsLook alone seen book)
+    ⊎ ((answer ≡ Err fault.Keeper) × IsLook alone seen book)
 MayHappen alone seen (waited n) = Unit {0}
 MayHappen alone seen (wrote bytes) = Unit {0}
 

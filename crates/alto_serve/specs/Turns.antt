@@ -41,9 +41,9 @@ pub data Stage : Type 0 where
   has_answer : ℕ → Result Receipt EditFault → Stage
 
 -- an event leads a turn from one stage to the next: a look; a wait for a book with more batches, where the request
--- asks for the edge from a resource's last number to the next, which doesn't exist yet (`Hold`), and a wait is left; one
--- look more, where it brings an import (`Edit`); what becomes of that import. Any other event leads nowhere, so no turn
--- writes
+-- asks for the edge from a resource's last number to the next, which doesn't exist yet (`Hold`), and a wait is left;
+-- one look more, where it brings an import (`Edit`); what becomes of that import. Any other event leads nowhere, so no
+-- turn writes
 abbrev pub Leads : Client → RequestData → Event → Stage → Stage → Type 0
 Leads client request (looked book) (looks_next left) next = next ≡ sees left book
 Leads client request (waited n) (sees left book) next =
@@ -51,7 +51,7 @@ Leads client request (waited n) (sees left book) next =
     × AnswersTo request book client (answer.Hold of i j) × (n ≡ number_of book) × (next ≡ looks_next fewer)
 Leads client request (entered look) (sees left book) next =
     (import : Import) × AnswersTo request book client (answer.Edit import) × (next ≡ submits import)
-Leads client request (submitted import moment faults decided book) (submits wanted) next =
+Leads client request (submitted import moment decided book) (submits wanted) next =
     (import ≡ wanted) × (next ≡ has_answer moment decided)
 Leads _ _ _ _ _ = ⊥
 

@@ -29,6 +29,7 @@ pub record EdgeAsked : Type 0 where
 -- 4 and 5. Its method needn't be named: no other than GET is answered 200
 pub record AsksEdge (client : Client) (request : RequestData) (resource : Resource) (edge : EdgeAsked) : Type 0 where
   pub routed : place_of client.routes (path_of request.target) ≡ Some place.Edge
+  -- the names of the resource are of their alphabets
   pub good : IsResource resource
   pub id : resource_id resource ≡ segment (path_of request.target) 2
   pub from : edge_number (segment (path_of request.target) 4) ≡ Some edge.i

@@ -1,12 +1,11 @@
 -- Counts of doors that are closed, and what holds of all of a list.
 use Rattle.std.proofs.Common.{◌≡◌, ◌+◌, ◌∙◌, ◌++◌, ℕ, suc, true, List, [], ◌∷◌, All, ap, refl, subst, sym}
 use Rattle.std.proofs.lemmas.List.Elements.{All-append, All-cons, All-head, All-nil, All-tail}
-use Rattle.alto_doors.specs.Door.{is_served, just_opened}
+use Rattle.alto_doors.specs.Door.{is_served, just_opened, risen}
 use Rattle.alto_doors.specs.Doors.{closed, one_more_if}
 use Rattle.alto_doors.specs.declared.counts.DoorCounts.{DoorCounts}
 use Rattle.alto_doors.specs.declared.state.DoorState.{DoorState}
 use Rattle.alto_http.specs.Link.{one_more}
-use Rattle.alto_serve.specs.Events.{risen}
 
 -- a door that was just opened counts for nothing
 pub closed_unused : (door : DoorState) (counts : DoorCounts) → door ≡ just_opened → closed door counts ≡ counts

@@ -4,8 +4,9 @@ use Rattle.alto_book.specs.Book.{Book}
 use Rattle.alto_desk.specs.Records.{Backs}
 use Rattle.alto_http.specs.Link.{one_more}
 use Rattle.alto_keeper.specs.Stored.{StoredData, Stays}
-use Rattle.alto_serve.specs.Events.{IsGrown, risen}
+use Rattle.alto_serve.specs.Events.{IsGrown}
 use Rattle.alto_commands.specs.Stores.{Finds, IsUnopened}
+use Rattle.alto_doors.specs.Door.{risen}
 use Rattle.alto_doors.specs.declared.counts.DoorCounts.{DoorCounts}
 
 -- as many doors more were served to their ends

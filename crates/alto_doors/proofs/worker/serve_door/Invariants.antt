@@ -1,7 +1,8 @@
 use Rattle.std.proofs.Common.{◌≡◌, ◌<◌, false}
 use Rattle.alto_answers.specs.Answers.{client_of}
-use Rattle.alto_serve.specs.Events.{IsGrown, risen}
+use Rattle.alto_serve.specs.Events.{IsGrown}
 use Rattle.alto_serve.specs.Turns.{setting_of}
+use Rattle.alto_doors.specs.Door.{risen}
 use Rattle.alto_doors.specs.Workers.{HasServed}
 use Rattle.alto_doors.proofs.worker.serve_door.Given as goal
 

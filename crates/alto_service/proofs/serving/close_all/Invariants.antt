@@ -1,7 +1,6 @@
 -- The doors that are left were served to their ends, and those that were closed are counted.
 use Rattle.std.proofs.Common.{◌≡◌, ◌+◌, All, length, true, ℕ}
-use Rattle.alto_doors.specs.Door.{is_served}
-use Rattle.alto_serve.specs.Events.{risen}
+use Rattle.alto_doors.specs.Door.{is_served, risen}
 use Rattle.alto_service.proofs.serving.close_all.Given as goal
 
 abbrev pub invariant-loop-worker : goal.invariant-loop-worker
