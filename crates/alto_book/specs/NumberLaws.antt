@@ -53,8 +53,8 @@ GivenNumberIsNext = (book : Book) (of : Resource) (number n : ℕ) (batch : Acce
 -- a batch that writes a key that touches a resource gives it a number, where it is declared afterwards
 abbrev pub TouchedResourcesGetNumbers : Type 0
 TouchedResourcesGetNumbers = (book : Book) (of : Resource) (n : ℕ) (batch : Accepted) → IsLegal book
-    → slice_get book.batches n ≡ Some batch → is_declared (state_at book (n + 1)) of ≡ true → is_written batch.writes of ≡ true
-    → gives of (version_of (state_at book (n + 1)) of) batch ≡ true
+    → slice_get book.batches n ≡ Some batch → is_declared (state_at book (n + 1)) of ≡ true
+    → is_written batch.writes of ≡ true → gives of (version_of (state_at book (n + 1)) of) batch ≡ true
 
 -- ---- the pushes
 

@@ -20,5 +20,10 @@ impl Model for Reply {
 
     ghost Value = { ReplyData };
 
-    ghost view = { λ reply. record { status = reply.status; content_type = reply.content_type; allow = reply.allow; body = reply.body.items } };
+    ghost view = { λ reply. record {
+      status = reply.status;
+      content_type = reply.content_type;
+      allow = reply.allow;
+      body = reply.body.items;
+    } };
 }

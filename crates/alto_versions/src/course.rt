@@ -72,9 +72,9 @@ impl<R: RowStore> Course<R> {
     pub fn with(&self, alloc: Global, rows: R, writes: &[Write]) -> Result<Course<R>, AllocError>
         requires room { self.now.n < 2 ^ 63 }
         requires good { AreGood (R.rows rows) }
-        ensures { IfOk result (λ course. (book : Book) (batch : Accepted) → IsLegal book → IsLegal (with_batch book batch)
-            → R.rows rows ≡ rows_of (with_batch book batch) → writes.now ≡ batch.writes
-            → Follows self.now book → Follows course (with_batch book batch)) }
+        ensures { IfOk result (λ course. (book : Book) (batch : Accepted) → IsLegal book
+            → IsLegal (with_batch book batch) → R.rows rows ≡ rows_of (with_batch book batch)
+            → writes.now ≡ batch.writes → Follows self.now book → Follows course (with_batch book batch)) }
     {
         let rows = Arc::new(alloc, rows)?;
         let graphs = graphs_after(alloc, &self.graphs, &[], &rows, writes)?;

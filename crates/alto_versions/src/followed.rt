@@ -1,5 +1,5 @@
-//! The updates graph of a resource, with what is kept as text of its numbers. A reply copies such a text, where it would
-//! be written anew.
+//! The updates graph of a resource, with what is kept as text of its numbers. A reply copies such a text, where it
+//! would be written anew.
 ghost use Rattle.std.specs.Prelude.{◌≡◌, ◌≤◌, ◌<◌, ◌^◌, ◌-◌, [], true, All, IfOk, IfSome, map, option_map};
 ghost use Rattle.std.specs.Arc.{arc_value};
 ghost use Rattle.alto_rows.specs.Good.{AreGood};

@@ -23,7 +23,8 @@ shares _ _ at = false
 -- keys by what they don't have in common
 abbrev pub order_of_rest : Key → Shared → Key → Ordering
 order_of_rest low Nothing at = key_cmp low at
-order_of_rest (key.Cost net metric source destination) Metric (key.Cost of other from to) = ordering_then (name_cmp source from) (name_cmp destination to)
+order_of_rest (key.Cost net metric source destination) Metric (key.Cost of other from to) =
+    ordering_then (name_cmp source from) (name_cmp destination to)
 order_of_rest (key.Cost net metric source destination) Source (key.Cost of other from to) = name_cmp destination to
 order_of_rest low _ at = key_cmp low at
 
