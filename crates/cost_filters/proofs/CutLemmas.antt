@@ -11,18 +11,19 @@ use Rattle.alto_rows.specs.declared.key.Key.{Key}
 use Rattle.alto_rows.specs.declared.span.Span.{Span}
 use Rattle.alto_rows.specs.declared.value.Value.{Value}
 use Rattle.alto_rows.specs.Order.{key_cmp, name_cmp}
-use Rattle.alto_rows.specs.Rows.{Rows, AreSorted, IsRunOf, rows_from, value_of}
+use Rattle.alto_rows.specs.Rows.{Rows, AreSorted, IsRunOf, rows_from, rows_past, value_of}
 use Rattle.alto_rows.specs.Span.{is_in, rows_in, span_cmp}
 use Rattle.alto_rows.specs.Within.{ComeFirst}
-use Rattle.alto_rows.proofs.OrderLemmas.{key_cmp_exact, key_cmp_itself, one_key}
-use Rattle.alto_rows.proofs.RowsLemmas.{past_first, past_lesser, same_key_back, value_of-past}
-use Rattle.alto_rows.proofs.RunLemmas.{AreFrom, from_rows_from, sorted_rows_from, value_of-rows_from}
+use Rattle.alto_rows.proofs.OrderLemmas.{key_cmp_exact, key_cmp_itself, key_cmp_total, name_cmp_exact, one_key}
+use Rattle.alto_rows.proofs.RowsLemmas.{ArePast, past_first, past_lesser, same_key_back, value_of-past}
+use Rattle.alto_rows.proofs.RunLemmas.{AreFrom, from_rows_from, past_rows_past, sorted_rows_from, sorted_rows_past}
+use Rattle.alto_rows.proofs.RunLemmas.{value_of-rows_from, value_of-rows_past}
 use Rattle.alto_rows.proofs.SpanLemmas.{in_span}
 use Rattle.alto_rows.proofs.WithinLemmas.{AreFromSpan, come_first, later_from_span, sorted_rows_in, value_of-rows_in}
 use Rattle.alto_maps.specs.Shape.{Name}
 use Rattle.cost_docs.specs.CostMap.{number_at}
 use Rattle.cost_filters.proofs.RunLemmas.{key_order, own_key}
-use Rattle.cost_filters.specs.Runs.{Leads, OriginData, cost_to, costs_of, ends_in, first_value, key_to}
+use Rattle.cost_filters.specs.Runs.{IsCostBefore, Leads, OriginData, cost_to, costs_of, ends_in, first_value, key_to}
 
 -- ---- rows that pass a test before the others
 
@@ -190,84 +191,122 @@ first_in s (row ∷ rows) at first own = by (is_in s row.0) (is_eq (key_cmp row.
     by false true e f = let one : row.0 ≡ at = one_key row.0 at f in cc
     by false false e f = rw (e, pass_none (λ there. is_in s there.0) row rows first e, f) refl
 
--- ---- a run of the rows from a destination's on
+-- ---- a run of rows that aren't before a span
 
--- rows from an origin's key on aren't before its span
-from_span : (origin : OriginData) (dst : Name) (rows : Rows) → AreFrom (key_to origin dst) rows
-    → AreFromSpan (costs_of origin) rows
-from_span origin dst [] from = tt
-from_span origin dst (row ∷ rows) from =
-    (by (key_cmp (key_to origin dst) row.0) refl, from_span origin dst rows from.1)
+-- a key in a span isn't before it
+not_before : (s : Span) (at : Key) → is_in s at ≡ true → is_gt (span_cmp s at) ≡ false
+not_before s at own = by (span_cmp s at) (sym (in_span s at) ∙ own)
   where
-    tied : (o : Ordering) → is_eq o ≡ true → is_gt o ≡ false
-    tied Less h = refl
-    tied Equal h = refl
-    tied Greater h = cc
+    by : (o : Ordering) → is_eq o ≡ true → is_gt o ≡ false
+    by Less h = refl
+    by Equal h = refl
+    by Greater h = cc
 
-    own : is_gt (span_cmp (costs_of origin) (key_to origin dst)) ≡ false
-    own =
-        tied (span_cmp (costs_of origin) (key_to origin dst))
-        (sym (in_span (costs_of origin) (key_to origin dst)) ∙ own_key origin dst)
-
-    by : (o : Ordering) → key_cmp (key_to origin dst) row.0 ≡ o → is_gt (span_cmp (costs_of origin) row.0) ≡ false
-    by Less e = later_from_span (costs_of origin) (key_to origin dst) row.0 e own
-    by Equal e = let same : key_to origin dst ≡ row.0 = key_cmp_exact (key_to origin dst) row.0 e in rw (← same) own
+-- nor are rows from it on
+from_span : (s : Span) (at : Key) (rows : Rows) → is_in s at ≡ true → AreFrom at rows → AreFromSpan s rows
+from_span s at [] own from = tt
+from_span s at (row ∷ rows) own from = (by (key_cmp at row.0) refl, from_span s at rows own from.1)
+  where
+    by : (o : Ordering) → key_cmp at row.0 ≡ o → is_gt (span_cmp s row.0) ≡ false
+    by Less e = later_from_span s at row.0 e (not_before s at own)
+    by Equal e = let same : at ≡ row.0 = key_cmp_exact at row.0 e in rw (← same) (not_before s at own)
     by Greater e = let both : is_gt Greater ≡ false = rw e at from.0 in cc
 
--- so those of the span come first
-costs_first : (rows : Rows) (origin : OriginData) (dst : Name) → AreSorted rows
-    → ComeFirst (costs_of origin) (rows_from rows (key_to origin dst))
-costs_first rows origin dst s =
-    come_first (costs_of origin) (rows_from rows (key_to origin dst)) (sorted_rows_from rows (key_to origin dst) s)
-    (from_span origin dst (rows_from rows (key_to origin dst)) (from_rows_from rows (key_to origin dst)))
+-- nor rows behind it
+past_span : (s : Span) (at : Key) (rows : Rows) → is_in s at ≡ true → ArePast at rows → AreFromSpan s rows
+past_span s at [] own past = tt
+past_span s at (row ∷ rows) own past =
+    (later_from_span s at row.0 past.0 (not_before s at own), past_span s at rows own past.1)
 
--- also in a run of them
+-- of such rows those of the span come first, also in a run
+first_of_span : (s : Span) (all run : Rows) → AreSorted all → AreFromSpan s all → IsRunOf all run → ComeFirst s run
+first_of_span s all run sorted from r =
+    pass_front (λ row. is_in s row.0) run r.rest (rw r.whole at (come_first s all sorted from))
+
+-- so do the costs in a run of the rows from a destination's on
 pub run_first : (rows run : Rows) (origin : OriginData) (dst : Name) → AreSorted rows
     → IsRunOf (rows_from rows (key_to origin dst)) run → ComeFirst (costs_of origin) run
 run_first rows run origin dst s r =
-    pass_front (λ row. is_in (costs_of origin) row.0) run r.rest (rw r.whole at (costs_first rows origin dst s))
+    first_of_span (costs_of origin) (rows_from rows (key_to origin dst)) run
+    (sorted_rows_from rows (key_to origin dst) s)
+    (from_span (costs_of origin) (key_to origin dst) (rows_from rows (key_to origin dst)) (own_key origin dst)
+    (from_rows_from rows (key_to origin dst)))
+    r
+
+-- and in one of the rows behind the key of a cost
+pub first_past : (rows run : Rows) (origin : OriginData) (at : Key) → AreSorted rows → is_in (costs_of origin) at ≡ true
+    → IsRunOf (rows_past rows at) run → ComeFirst (costs_of origin) run
+first_past rows run origin at s own r =
+    first_of_span (costs_of origin) (rows_past rows at) run (sorted_rows_past rows at s)
+    (past_span (costs_of origin) at (rows_past rows at) own (past_rows_past rows at))
+    r
 
 -- what isn't true is false
 untrue : (b : Bool) → not b ≡ true → b ≡ false
 untrue true h = cc
 untrue false h = refl
 
--- those of the span lead to the destination
-pub run_leads : (rows run : Rows) (origin : OriginData) (dst : Name) → AreSorted rows
-    → IsRunOf (rows_from rows (key_to origin dst)) run
+-- a run of rows that tell of a destination and those behind it leads to the destination, cut to the costs
+cut_leads : (rows all run : Rows) (origin : OriginData) (dst : Name) → AreSorted all → AreFromSpan (costs_of origin) all
+    → ((next : Name) → is_gt (name_cmp dst next) ≡ false
+    → value_of all (key_to origin next) ≡ value_of rows (key_to origin next))
+    → IsRunOf all run
     → Leads rows origin
     (record { rows = rows_in run (costs_of origin); is_last = not (ends_in (costs_of origin) run) }) dst
-run_leads rows run origin dst s r =
+cut_leads rows all run origin dst sorted from tells r =
     record {
       rest = rows_in r.rest (costs_of origin);
       told = λ next later. ap number_at (told next later);
-      sorted = rw split at (sorted_rows_in (rows_from rows own) (costs_of origin) (sorted_rows_from rows own s));
+      sorted = rw split at (sorted_rows_in all (costs_of origin) sorted);
       shared = filter_passes (λ (row : Key × Value). is_in (costs_of origin) row.0) run;
       last = λ last.
-          none_after (costs_of origin) run r.rest (rw r.whole at (costs_first rows origin dst s))
+          none_after (costs_of origin) run r.rest (rw r.whole at (come_first (costs_of origin) all sorted from))
           (untrue (ends_in (costs_of origin) run) last) behind_none;
     }
   where
-    own : Key
-    own = key_to origin dst
-
     behind_none : run ≡ [] → r.rest ≡ []
     behind_none none = let empty : run ++ r.rest ≡ [] = sym r.whole ∙ r.some none in rw none at empty
 
-    split : rows_in (rows_from rows own) (costs_of origin)
-        ≡ rows_in run (costs_of origin) ++ rows_in r.rest (costs_of origin)
+    split : rows_in all (costs_of origin) ≡ rows_in run (costs_of origin) ++ rows_in r.rest (costs_of origin)
     split = rw r.whole (filter-append (λ (row : Key × Value). is_in (costs_of origin) row.0) run r.rest)
 
     told : (next : Name) → is_gt (name_cmp dst next) ≡ false
         → value_of rows (key_to origin next)
         ≡ value_of (rows_in run (costs_of origin) ++ rows_in r.rest (costs_of origin)) (key_to origin next)
     told next later =
-        let from : value_of (rows_from rows own) (key_to origin next) ≡ value_of rows (key_to origin next) =
-        value_of-rows_from rows own (key_to origin next) ∙ rw (key_order origin dst next, later) refl in
-        let inside : value_of (rows_in (rows_from rows own) (costs_of origin)) (key_to origin next)
-        ≡ value_of (rows_from rows own) (key_to origin next) =
-        value_of-rows_in (rows_from rows own) (costs_of origin) (key_to origin next) ∙ rw (own_key origin next) refl in
-        sym from ∙ (sym inside ∙ ap (λ (all : Rows). value_of all (key_to origin next)) split)
+        let inside : value_of (rows_in all (costs_of origin)) (key_to origin next) ≡ value_of all (key_to origin next) =
+        value_of-rows_in all (costs_of origin) (key_to origin next) ∙ rw (own_key origin next) refl in
+        sym (tells next later) ∙ (sym inside ∙ ap (λ (rows : Rows). value_of rows (key_to origin next)) split)
+
+-- so does one of the rows from the destination's on
+pub run_leads : (rows run : Rows) (origin : OriginData) (dst : Name) → AreSorted rows
+    → IsRunOf (rows_from rows (key_to origin dst)) run
+    → Leads rows origin
+    (record { rows = rows_in run (costs_of origin); is_last = not (ends_in (costs_of origin) run) }) dst
+run_leads rows run origin dst s =
+    cut_leads rows (rows_from rows own) run origin dst (sorted_rows_from rows own s)
+    (from_span (costs_of origin) own (rows_from rows own) (own_key origin dst) (from_rows_from rows own))
+    (λ next later. value_of-rows_from rows own (key_to origin next) ∙ rw (key_order origin dst next, later) refl)
+  where
+    own : Key
+    own = key_to origin dst
+
+-- and one of the rows behind a cost before the destination's
+pub leads_past : (rows run : Rows) (origin : OriginData) (at : Key) (dst : Name) → AreSorted rows
+    → IsCostBefore origin at dst → IsRunOf (rows_past rows at) run
+    → Leads rows origin
+    (record { rows = rows_in run (costs_of origin); is_last = not (ends_in (costs_of origin) run) }) dst
+leads_past rows run origin at dst s before =
+    cut_leads rows (rows_past rows at) run origin dst (sorted_rows_past rows at s)
+    (past_span (costs_of origin) at (rows_past rows at) before.0 (past_rows_past rows at))
+    (λ next later. value_of-rows_past rows at (key_to origin next) ∙ rw (less next later (name_cmp dst next) refl) refl)
+  where
+    less : (next : Name) → is_gt (name_cmp dst next) ≡ false → (o : Ordering) → name_cmp dst next ≡ o
+        → key_cmp at (key_to origin next) ≡ Less
+    less next later Less e =
+        key_cmp_total.trans at (key_to origin dst) (key_to origin next) before.1 (key_order origin dst next ∙ e)
+    less next later Equal e = let same : dst ≡ next = name_cmp_exact dst next e in rw (← same) before.1
+    less next later Greater e = let both : is_gt Greater ≡ false = rw e at later in cc
 
 -- what is neither equal nor greater is less
 less_left : (o : Ordering) → is_eq o ≡ false → is_gt o ≡ false → o ≡ Less

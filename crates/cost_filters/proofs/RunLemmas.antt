@@ -1,11 +1,13 @@
 -- Runs of rows that lead to destinations: what they tell of costs, and of later destinations.
-use Rattle.std.proofs.Common.{◌≡◌, ◌<◌, ◌-◌, ◌+◌, ℕ, zero, suc, refl, ap, sym, ◌∙◌, arith, drop, get_or, length, inl, inr, length-append, append_assoc, append-nil}
+use Rattle.std.proofs.Common.{◌≡◌, ◌<◌, ◌-◌, ◌+◌, ℕ, zero, suc, refl, ap, sym, ◌∙◌, arith, drop, get_or, length, inl}
+use Rattle.std.proofs.Common.{inr, length-append, append_assoc, append-nil}
 use Rattle.std.proofs.Math.Seq.{drop-append_seam}
 use Rattle.std.proofs.lemmas.Bool.{and_parts}
 use Rattle.std.proofs.lemmas.Cmp.{nat_list_cmp_total}
 use Rattle.std.proofs.lemmas.List.Elements.{All-drop}
 use Rattle.std.proofs.lemmas.Option.{get_or_from_slice_get}
-use Rattle.std.specs.Prelude.{Bool, true, false, cond, List, [], ◌∷◌, ◌++◌, ◌&&◌, ◌⊎◌, Result, Ok, Err, Some, None, option_map, slice_get}
+use Rattle.std.specs.Prelude.{Bool, true, false, cond, List, [], ◌∷◌, ◌++◌, ◌&&◌, ◌⊎◌, Result, Ok, Err, Some, None}
+use Rattle.std.specs.Prelude.{option_map, slice_get}
 use Rattle.std.specs.Cmp.Lexicographic.{slice_cmp}
 use Rattle.std.specs.List.Sorted.{IsBinarySearchResult, IsSearchInRange, IsStrictlySortedBy}
 use Rattle.std.specs.Ordering.{is_eq, is_gt, nat_cmp}
@@ -19,13 +21,17 @@ use Rattle.alto_rows.specs.Place.{place_of}
 use Rattle.alto_rows.specs.Rows.{Rows, AreSorted, value_of}
 use Rattle.alto_rows.specs.Span.{is_in}
 use Rattle.alto_rows.proofs.OrderLemmas.{key_cmp_exact, key_cmp_total, name_cmp_exact, name_cmp_itself, one_key}
-use Rattle.alto_rows.proofs.PlaceLemmas.{IsFound, IsMissing, found_from_place, missing_from_place, place_behind_last, place_of-found, value_of-missing}
-use Rattle.alto_rows.proofs.RowsLemmas.{AreBefore, ArePast, before_middle, greater_back, less_back, past_lesser, past_middle, sorted_left, sorted_right, value_of-before, value_of-middle, value_of-past}
+use Rattle.alto_rows.proofs.PlaceLemmas.{IsFound, IsMissing, found_from_place, missing_from_place, place_behind_last}
+use Rattle.alto_rows.proofs.PlaceLemmas.{place_of-found, value_of-missing}
+use Rattle.alto_rows.proofs.RowsLemmas.{AreBefore, ArePast, before_middle, greater_back, less_back, past_lesser}
+use Rattle.alto_rows.proofs.RowsLemmas.{past_middle, sorted_left, sorted_right, value_of-before, value_of-middle}
+use Rattle.alto_rows.proofs.RowsLemmas.{value_of-past}
 use Rattle.alto_rows.proofs.SearchLemmas.{place_from_search}
 use Rattle.alto_rows.proofs.TouchesLemmas.{one_name, same_name_itself}
 use Rattle.alto_maps.specs.Shape.{Name}
 use Rattle.cost_docs.specs.CostMap.{number_at}
-use Rattle.cost_filters.specs.Runs.{AreCosts, Leads, OriginData, RunData, cost_to, costs_of, destination_cmp, first_value, key_to}
+use Rattle.cost_filters.specs.Runs.{AreCosts, IsCostBefore, Leads, OriginData, RunData}
+use Rattle.cost_filters.specs.Runs.{cost_to, costs_of, destination_cmp, first_value, key_to}
 
 -- ---- the keys of the costs from an origin
 
@@ -88,19 +94,31 @@ placed_at origin rows dst place row costs within is same =
     (found_at rows (key_to origin dst) place row within is
     (ap is_eq (sym (destination_orders origin row.0 dst shared)) ∙ same))
 
--- it is behind rows of which the last stands before it
+-- the last row of some is at the place before their end
+last_place : (first : Key × Value) (rows : Rows) (row : Key × Value)
+    → Some row ≡ slice_get (first ∷ rows) (length (first ∷ rows) - 1) → get_or (first ∷ rows) (length rows) row ≡ row
+last_place first rows row last =
+    let place : length (first ∷ rows) - 1 ≡ length rows = omega arith in
+    get_or_from_slice_get (first ∷ rows) (length rows) row row (sym (last ∙ ap (slice_get (first ∷ rows)) place))
+
+-- where its destination stands before another, its key is of a cost before that to the other
+pub last_is_before : (origin : OriginData) (rows : Rows) (dst : Name) (row : Key × Value) → AreCosts origin rows
+    → Some row ≡ slice_get rows (length rows - 1) → destination_cmp row.0 dst ≡ Less → IsCostBefore origin row.0 dst
+last_is_before origin [] dst row costs last less = cc
+last_is_before origin (first ∷ rows) dst row costs last less =
+    let is : get_or (first ∷ rows) (length rows) row ≡ row = last_place first rows row last in
+    let shared : is_in (costs_of origin) row.0 ≡ true = rw is at (costs.shared (length rows) row (omega arith)) in
+    (shared, sym (destination_orders origin row.0 dst shared) ∙ less)
+
+-- and the place of the other is behind all rows
 pub placed_behind : (origin : OriginData) (rows : Rows) (dst : Name) (row : Key × Value) → AreCosts origin rows
     → Some row ≡ slice_get rows (length rows - 1) → destination_cmp row.0 dst ≡ Less
     → place_of rows (key_to origin dst) ≡ Err (length rows)
 placed_behind origin [] dst row costs last less = refl
 placed_behind origin (first ∷ rows) dst row costs last less =
-    let place : length (first ∷ rows) - 1 ≡ length rows = omega arith in
-    let is : get_or (first ∷ rows) (length rows) row ≡ row =
-    get_or_from_slice_get (first ∷ rows) (length rows) row row
-    (sym (last ∙ ap (slice_get (first ∷ rows)) place)) in
-    let shared : is_in (costs_of origin) row.0 ≡ true = rw is at (costs.shared (length rows) row (omega arith)) in
+    let is : get_or (first ∷ rows) (length rows) row ≡ row = last_place first rows row last in
     place_behind_last (first ∷ rows) (length rows) row (key_to origin dst) costs.sorted (omega arith) (omega arith)
-    (rw is (sym (destination_orders origin row.0 dst shared) ∙ less))
+    (rw is (last_is_before origin (first ∷ rows) dst row costs last less).1)
 
 -- a search by destinations finds what one by keys does
 pub placed_by_search : (origin : OriginData) (rows : Rows) (dst : Name) (r : Result ℕ ℕ) → AreCosts origin rows

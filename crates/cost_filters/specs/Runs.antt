@@ -54,6 +54,10 @@ pub record AreCosts (origin : OriginData) (rows : Rows) : Type 0 where
   pub sorted : AreSorted rows
   pub shared : All (λ row. is_in (costs_of origin) row.0 ≡ true) rows
 
+-- a key is of a cost from an origin, before that to a destination
+abbrev pub IsCostBefore : OriginData → Key → Name → Type 0
+IsCostBefore origin at dst = (is_in (costs_of origin) at ≡ true) × (key_cmp at (key_to origin dst) ≡ Less)
+
 -- rows that lie together, and whether they are the last
 pub record RunData : Type 0 where
   pub rows : Rows

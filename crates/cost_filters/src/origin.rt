@@ -1,15 +1,16 @@
 //! The costs in a metric from a source, found in runs of rows that lie together.
-ghost use Rattle.std.specs.Prelude.{◌≡◌, IfOk, map, not};
+ghost use Rattle.std.specs.Prelude.{◌≡◌, IfOk, map, not, true};
 ghost use Rattle.std.specs.List.Sorted.{IsStrictlySortedBy};
 ghost use Rattle.std.specs.Cmp.Lexicographic.{slice_cmp};
 ghost use Rattle.std.specs.Ordering.{nat_cmp};
 ghost use Rattle.alto_rows.specs.Rows.{AreSorted};
 ghost use Rattle.alto_rows.specs.Span.{is_in, rows_in};
 ghost use Rattle.alto_rows.specs.Within.{ComeFirst};
+ghost use Rattle.alto_maps.specs.Shape.{Name};
 ghost use Rattle.cost_docs.specs.CostMap.{number_at};
-ghost use Rattle.cost_filters.specs.Runs.{Leads, cost_to, costs_of, ends_in, first_value, key_to};
+ghost use Rattle.cost_filters.specs.Runs.{IsCostBefore, Leads, cost_to, costs_of, ends_in, first_value, key_to};
 
-use crate::run::Run;
+use crate::run::{Run, Step};
 use alto_names::{Metric, NetName, PidName};
 use alto_rows::{Key, RowStore, Value};
 use std::alloc::{AllocError, Global};
@@ -40,9 +41,10 @@ impl<'a> Origin<'a> {
     }
 
     /// The costs to destinations in byte order, one for each. The gaps guess how many rows lie between the rows of
-    /// two destinations that follow one another, and become those that were found: where one is right a destination
-    /// costs one comparison of names, else a binary search in a run. Each run of the store in which rows from here lie
-    /// costs one search, and the last of them at most one more.
+    /// two destinations that follow one another, and become those that were found, also where the second lies in the
+    /// run of the store behind: where one is right a destination costs one comparison of names, else a binary search
+    /// in a run. Each run in which rows from here lie costs one search of the store, and the last of them at most one
+    /// more.
     pub(crate) fn costs_to<R: RowStore>(
         &self,
         alloc: Global,
@@ -67,7 +69,8 @@ impl<'a> Origin<'a> {
         Ok(costs)
     }
 
-    /// Looks for a destination in a run that leads to it or, where all its rows stand before, in the next.
+    /// Looks for a destination in a run that leads to it or, where all its rows stand before, in the run behind, and
+    /// else in the store.
     fn step_to<'r, R: RowStore>(
         &self,
         rows: &'r R,
@@ -79,28 +82,30 @@ impl<'a> Origin<'a> {
         ensures cost { IfOk result (λ step. step.cost ≡ cost_to (R.rows rows.now) self.now dst.now) }
         ensures leads { IfOk result (λ step. Leads (R.rows rows.now) self.now step.run dst.now) }
     {
-        match run.place(dst, guess) {
-            Ok(at) => Ok(Step {
-                cost: run.cost_at(at),
-                gap: at,
-                run: run.from(at),
-            }),
-            Err(at) => {
-                if run.tells_none(at) {
-                    return Ok(Step {
-                        cost: None,
-                        gap: at,
-                        run: run.from(at),
-                    });
-                }
-                let run = self.run_to(rows, dst)?;
-                Ok(Step {
-                    cost: run.first_cost(dst),
-                    gap: guess,
-                    run,
-                })
+        if let Some(step) = run.step_to(dst, 0, guess) {
+            return Ok(step);
+        }
+        if let Some(last) = run.last_before(dst) {
+            let behind = self.run_after(rows, last);
+            if let Some(step) = behind.step_to(dst, run.len(), guess) {
+                return Ok(step);
             }
         }
+        let run = self.run_to(rows, dst)?;
+        Ok(Step {
+            cost: run.first_cost(dst),
+            gap: guess,
+            run,
+        })
+    }
+
+    /// The rows from here that lie together, behind the key of one. One search of the store.
+    fn run_after<'r, R: RowStore>(&self, rows: &'r R, last: &Key) -> Run<'r>
+        requires { is_in (costs_of self.now) last.now ≡ true }
+        ensures { (dst : Name) → IsCostBefore self.now last.now dst
+            → Leads (R.rows rows.now) self.now result dst }
+    {
+        self.cut(rows.run_after(last))
     }
 
     /// The rows from here that lie together, from a destination's on. One search of the store.
@@ -162,16 +167,6 @@ impl<'a> Origin<'a> {
             dst.clone()?,
         ))
     }
-}
-
-/// What looking for a destination gives.
-#[derive(Drop)]
-struct Step<'r> {
-    cost: Option<u64>,
-    /// How many rows of the run lay before its row.
-    gap: usize,
-    /// The rows from there on.
-    run: Run<'r>,
 }
 
 /// The gap at a place, 0 where there is none.

@@ -1,10 +1,13 @@
 //! Rows of the costs from one source that lie together, and the search for a destination in them.
-ghost use Rattle.std.specs.Prelude.{◌≡◌, ◌⊎◌, ◌<◌, ◌≤◌, true, Ok, Err, Some, drop, length, option_map, slice_get};
+ghost use Rattle.std.specs.Prelude.{◌≡◌, ◌⊎◌, ◌<◌, ◌≤◌, true, Ok, Err, Some, IfSome};
+ghost use Rattle.std.specs.Prelude.{drop, length, option_map, slice_get};
 ghost use Rattle.std.specs.List.Sorted.{IsSearchInRange};
 ghost use Rattle.std.specs.Ordering.{is_eq};
 ghost use Rattle.alto_rows.specs.Place.{place_of};
+ghost use Rattle.alto_rows.specs.Rows.{Rows};
 ghost use Rattle.cost_docs.specs.CostMap.{number_at};
-ghost use Rattle.cost_filters.specs.Runs.{AreCosts, OriginData, destination_cmp, first_value, key_to};
+ghost use Rattle.cost_filters.specs.Runs.{AreCosts, IsCostBefore, Leads, OriginData};
+ghost use Rattle.cost_filters.specs.Runs.{cost_to, destination_cmp, first_value, key_to};
 
 use alto_names::PidName;
 use alto_rows::{Key, Value};
@@ -28,6 +31,16 @@ impl<'r> Model for Run<'r> {
     ghost view = { λ run. record { rows = run.rows.now; is_last = run.is_last } };
 }
 
+/// What looking for a destination gives.
+#[derive(Drop)]
+pub(crate) struct Step<'r> {
+    pub(crate) cost: Option<u64>,
+    /// How many rows lay before its row.
+    pub(crate) gap: usize,
+    /// The rows from there on that lie together.
+    pub(crate) run: Run<'r>,
+}
+
 impl<'r> Run<'r> {
     /// These rows.
     pub(crate) fn new(rows: &'r [(Key, Value)], is_last: bool) -> Run<'r>
@@ -36,9 +49,30 @@ impl<'r> Run<'r> {
         Run { rows, is_last }
     }
 
+    /// What looking for a destination in the run gives, where so many rows were passed before it; nothing where all its
+    /// rows stand before the destination and there may be others behind. The guess counts all rows up to the
+    /// destination's.
+    pub(crate) fn step_to(&self, dst: &PidName, passed: usize, guess: usize) -> Option<Step<'r>>
+        ensures cost { IfSome result (λ step. (rows : Rows) (origin : OriginData)
+            → Leads rows origin self.now dst.now → step.cost ≡ cost_to rows origin dst.now) }
+        ensures leads { IfSome result (λ step. (rows : Rows) (origin : OriginData)
+            → Leads rows origin self.now dst.now → Leads rows origin step.run dst.now) }
+    {
+        let (cost, at) = match self.place(dst, guess.saturating_sub(passed)) {
+            Ok(at) => (self.cost_at(at), at),
+            Err(at) if self.tells_none(at) => (None, at),
+            Err(_) => return None,
+        };
+        Some(Step {
+            cost,
+            gap: passed.saturating_add(at),
+            run: self.from(at),
+        })
+    }
+
     /// The place of a destination's row, or where it would go. One comparison where the guess is right, two where the
     /// run ends before it, else one binary search.
-    pub(crate) fn place(&self, dst: &PidName, guess: usize) -> Result<usize, usize>
+    fn place(&self, dst: &PidName, guess: usize) -> Result<usize, usize>
         ensures place { (origin : OriginData) → AreCosts origin self.now.rows
             → result ≡ place_of self.now.rows (key_to origin dst.now) }
         ensures within { IsSearchInRange result (length self.now.rows) }
@@ -76,15 +110,33 @@ impl<'r> Run<'r> {
         }
     }
 
+    /// The key of the last row, if it stands before that of a destination.
+    pub(crate) fn last_before(&self, dst: &PidName) -> Option<&'r Key>
+        ensures { IfSome result (λ last. (origin : OriginData) → AreCosts origin self.now.rows
+            → IsCostBefore origin last.now dst.now) }
+    {
+        let row = self.rows.last()?;
+        if destination_cmp(&row.0, dst).is_lt() {
+            Some(&row.0)
+        } else {
+            None
+        }
+    }
+
+    /// How many rows there are.
+    pub(crate) fn len(&self) -> usize {
+        self.rows.len()
+    }
+
     /// Whether a destination whose row would go at a place has none, neither in the run nor behind it.
-    pub(crate) fn tells_none(&self, at: usize) -> bool
+    fn tells_none(&self, at: usize) -> bool
         ensures { result ≡ true → at < length self.now.rows ⊎ self.now.is_last ≡ true }
     {
         at < self.rows.len() || self.is_last
     }
 
     /// The cost at a place.
-    pub(crate) fn cost_at(&self, at: usize) -> Option<u64>
+    fn cost_at(&self, at: usize) -> Option<u64>
         ensures { result ≡ number_at (option_map (λ row. row.1) (slice_get self.now.rows at)) }
     {
         number_in(&self.rows.get(at)?.1)
@@ -103,9 +155,9 @@ impl<'r> Run<'r> {
     }
 
     /// The rows from a place on.
-    pub(crate) fn from(self, at: usize) -> Run<'r>
-        requires { at ≤ length self.rows }
-        ensures { result ≡ record { rows = drop at self.entry.rows; is_last = self.entry.is_last } }
+    fn from(&self, at: usize) -> Run<'r>
+        requires { at ≤ length self.now.rows }
+        ensures { result ≡ record { rows = drop at self.now.rows; is_last = self.now.is_last } }
     {
         Run {
             rows: &self.rows[at..],
