@@ -1,8 +1,8 @@
 -- Rows in blocks, cut: which blocks are passed over, and what is left of the others.
-use Rattle.std.proofs.Common.{◌≡◌, ℕ, zero, suc, ◌<◌, ◌≤◌, refl, ap, sym, ◌∙◌, arith, append_assoc, append-nil, get_or, take, drop, map}
+use Rattle.std.proofs.Common.{◌≡◌, ℕ, zero, suc, ◌<◌, ◌≤◌, ◌-◌, refl, ap, sym, ◌∙◌, arith, append_assoc, append-nil, get_or, take, drop, map}
 use Rattle.std.proofs.lemmas.List.{nil_from_length, take-append-drop}
 use Rattle.std.proofs.lemmas.List.Elements.{filter-append}
-use Rattle.std.specs.Prelude.{not, true, false, List, [], ◌∷◌, ◌++◌, length}
+use Rattle.std.specs.Prelude.{not, true, false, List, [], ◌∷◌, ◌++◌, length, Some, slice_get}
 use Rattle.std.specs.List.{AllByRecursion}
 use Rattle.std.specs.List.Sorted.{IsPartitionPoint, IsStrictlySortedBy}
 use Rattle.std.specs.declared.cmp.Ordering.TheVariants.{Less}
@@ -29,6 +29,22 @@ rows_behind-passed cut (row ∷ front) rest h = rw h.0 (rows_behind-passed cut f
 pub rows_behind-kept : (cut : Cut) (rows : Rows) → AllByRecursion (λ row. keeps cut row.0 ≡ true) rows → rows_behind cut rows ≡ rows
 rows_behind-kept cut [] h = refl
 rows_behind-kept cut (row ∷ rows) h = rw h.0 (ap (λ (more : Rows). row ∷ more) (rows_behind-kept cut rows h.1))
+
+-- where the last of sorted rows isn't behind it, none is
+last_passed : (cut : Cut) (first : Key × Value) (rows : Rows) (row : Key × Value) → AreSorted (first ∷ rows)
+    → Some row ≡ slice_get (first ∷ rows) (length rows) → keeps cut row.0 ≡ false → AllByRecursion (λ row. keeps cut row.0 ≡ false) (first ∷ rows)
+last_passed cut first [] row s is k = let one : row ≡ first = cc in (rw one at k, tt)
+last_passed cut first (next ∷ rows) row s is k =
+    let below = last_passed cut next rows row (sorted_right (first ∷ []) (next ∷ rows) s) is k in
+    (passes_earlier cut first.0 next.0 (past_first first (next ∷ rows) s).0 below.0, below)
+
+pub none_behind : (cut : Cut) (rows : Rows) (row : Key × Value) → AreSorted rows → Some row ≡ slice_get rows (length rows - 1)
+    → keeps cut row.0 ≡ false → rows_behind cut rows ≡ []
+none_behind cut [] row s is k = refl
+none_behind cut (first ∷ rows) row s is k =
+    let place : length (first ∷ rows) - 1 ≡ length rows = omega arith in
+    let passed = last_passed cut first rows row s (is ∙ ap (slice_get (first ∷ rows)) place) k in
+    ap (rows_behind cut) (sym (append-nil (first ∷ rows))) ∙ rows_behind-passed cut (first ∷ rows) [] passed
 
 -- what stands behind the place of a cut
 pub drop_at_cut : (cut : Cut) (rows : Rows) (at : ℕ)
@@ -164,26 +180,18 @@ run_of_front : (front back run : Rows) → IsRunOf front run → (run ≡ [] →
 run_of_front front back run r some =
     record { rest = r.rest ++ back; whole = ap (λ (more : Rows). more ++ back) r.whole ∙ append_assoc run r.rest back; some = λ none. absurd (some none) }
 
--- of a block that begins behind a cut rows are left
-some_left : (cut : Cut) (slot : Placed) → BeginsAt slot.first slot.rows → keeps cut slot.first ≡ true → rows_behind cut slot.rows ≡ [] → ⊥
-some_left cut slot b k none =
-    let begun : rows_behind cut ((slot.first, b.value) ∷ b.rest) ≡ [] = rw b.whole at none in
-    let one : (slot.first, b.value) ∷ rows_behind cut b.rest ≡ [] = rw k at begun in
-    cc
+-- a run of the first block is one of all rows
+pub first_run : (slots : List Placed) (run : Rows) → AllBegin slots → IsRunOf (first_rows slots) run → IsRunOf (joined slots) run
+first_run [] run b r = r
+first_run (slot ∷ slots) run b r = run_of_front slot.rows (joined slots) run r (λ none. some (r.some none))
+  where
+    some : slot.rows ≡ [] → ⊥
+    some none = let begun : (slot.first, b.0.value) ∷ b.0.rest ≡ [] = rw b.0.whole at none in cc
 
--- where no block begins before a cut, a run of the first is one of all
-first_run : (cut : Cut) (slots : List Placed) (run : Rows) → AllBegin slots → AllByRecursion (λ slot. keeps cut slot.first ≡ true) slots
-    → IsRunOf (rows_behind cut (first_rows slots)) run → IsRunOf (rows_behind cut (joined slots)) run
-first_run cut [] run b k r = r
-first_run cut (slot ∷ slots) run b k r =
-    rw (filter-append (λ row. keeps cut row.0) slot.rows (joined slots))
-    (run_of_front (rows_behind cut slot.rows) (rows_behind cut (joined slots)) run r (λ none. some_left cut slot b.0 k.0 (r.some none)))
-
-pub run_at_start : (cut : Cut) (slots : List Placed) (at : ℕ) (run : Rows) → at ≡ 0 → AllBegin slots → IsPassed cut slots at
-    → IsRunOf (rows_behind cut (first_rows slots)) run → IsRunOf (rows_behind cut (joined slots)) run
-run_at_start cut slots at run start b p r =
-    let none : IsPassed cut slots 0 = rw start at p in
-    first_run cut slots run b none.kept r
+-- where no block begins before a cut, a run of all rows is one behind it
+pub run_at_start : (cut : Cut) (slots : List Placed) (at : ℕ) (run : Rows) → at ≡ 0 → AllBegin slots → AreSorted (joined slots)
+    → IsPassed cut slots at → IsRunOf (joined slots) run → IsRunOf (rows_behind cut (joined slots)) run
+run_at_start cut slots at run start b s p r = rw (behind_none cut slots b s (rw start at p)) r
 
 -- otherwise a run of the block that the cut goes through, if there is one
 pub run_in_round : (cut : Cut) (slots : List Placed) (last at : ℕ) (run : Rows) → at ≡ suc last → AllBegin slots → AreSorted (joined slots) → IsPassed cut slots at
@@ -192,16 +200,10 @@ run_in_round cut slots last at run next b s p r some =
     let round : IsPassed cut slots (suc last) = rw next at p in
     rw (behind_round cut slots last b s round) (run_of_front (rows_behind cut (first_rows (drop last slots))) (joined (drop (suc last) slots)) run r some)
 
--- and of the block behind it, if there is none
+-- and of the blocks behind it, if there is none
 pub run_past_round : (cut : Cut) (slots : List Placed) (last at : ℕ) (rest run : Rows) → at ≡ suc last → AllBegin slots → AreSorted (joined slots) → IsPassed cut slots at
-    → IsRunOf (rows_behind cut (first_rows (drop last slots))) rest → length rest ≡ 0 → IsRunOf (rows_behind cut (first_rows (drop at slots))) run
+    → IsRunOf (rows_behind cut (first_rows (drop last slots))) rest → length rest ≡ 0 → IsRunOf (joined (drop at slots)) run
     → IsRunOf (rows_behind cut (joined slots)) run
-run_past_round cut slots last at rest run next b s p r none first =
-    let round : IsPassed cut slots (suc last) = rw next at p in
-    let later = drop (suc last) slots in
-    let begun : AllBegin later = begin_drop slots (suc last) b in
+run_past_round cut slots last at rest run next b s p r none later =
     let used : rows_behind cut (first_rows (drop last slots)) ≡ [] = r.some (nil_from_length rest none) in
-    let all : rows_behind cut (joined slots) ≡ rows_behind cut (joined later) =
-    behind_round cut slots last b s round ∙ rw used (sym (kept_blocks cut later begun (sorted_drop slots (suc last) s) round.kept)) in
-    let one : IsRunOf (rows_behind cut (first_rows later)) run = rw next at first in
-    rw all (first_run cut later run begun round.kept one)
+    rw (behind_round cut slots last b s (rw next at p), used, ← next) later

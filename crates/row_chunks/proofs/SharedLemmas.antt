@@ -1,8 +1,9 @@
--- What the first and the last of rising keys have in common with a key, all have, and the rest orders them.
-use Rattle.std.proofs.Common.{◌≡◌, ℕ, zero, suc, ◌+◌, ◌<◌, ◌≤◌, refl, ap, sym, ◌∙◌, subst, arith, get_or, map, inl, inr}
+-- What two keys have in common with a third, those between them have, and the rest orders them.
+use Rattle.std.proofs.Common.{◌≡◌, ℕ, zero, suc, ◌+◌, ◌-◌, ◌<◌, ◌≤◌, refl, ap, sym, ◌∙◌, subst, arith, get_or, drop, map}
 use Rattle.std.proofs.lemmas.Bool.{and_parts}
-use Rattle.std.proofs.lemmas.Map.Keys.{sorted_head, sorted_tail}
-use Rattle.std.specs.Prelude.{true, false, not, ◌&&◌, List, [], ◌∷◌, length, ◌⊎◌}
+use Rattle.std.proofs.lemmas.List.{drop_more}
+use Rattle.std.proofs.lemmas.Option.{get_or_from_slice_get}
+use Rattle.std.specs.Prelude.{true, false, not, ◌&&◌, List, [], ◌∷◌, ◌++◌, length, Some, slice_get}
 use Rattle.std.specs.List.{AllByRecursion}
 use Rattle.std.specs.List.Sorted.{IsPartitionedBy, IsPartitionPoint, IsStrictlySortedBy}
 use Rattle.std.specs.Ordering.{is_eq, is_gt, is_lt}
@@ -12,17 +13,22 @@ use Rattle.alto_rows.specs.declared.key.Key.{Key}
 use Rattle.alto_rows.specs.declared.key.Key.TheVariants as key
 use Rattle.alto_rows.specs.declared.span.Span.{Span}
 use Rattle.alto_rows.specs.declared.span.Span.TheVariants as span
+use Rattle.alto_rows.specs.declared.value.Value.{Value}
 use Rattle.alto_rows.specs.Order.{key_cmp, same_name}
+use Rattle.alto_rows.specs.Rows.{Rows, AreSorted}
 use Rattle.alto_rows.specs.Span.{is_in, span_cmp}
-use Rattle.alto_rows.proofs.OrderLemmas.{key_cmp_total, name_cmp_itself}
+use Rattle.alto_rows.proofs.OrderLemmas.{name_cmp_itself}
+use Rattle.alto_rows.proofs.RowsLemmas.{AreBefore, ArePast, before_middle, greater_back, past_first, sorted_left}
 use Rattle.alto_rows.proofs.SpanLemmas.{in_span, span_falls}
 use Rattle.alto_rows.proofs.TouchesLemmas.{one_name}
 use Rattle.row_chunks.specs.declared.cut.Cut.{Cut}
 use Rattle.row_chunks.specs.declared.cut.Cut.TheVariants.{Before, Behind, BeforeSpan, BehindSpan}
 use Rattle.row_chunks.specs.declared.shared.Shared.{Shared}
 use Rattle.row_chunks.specs.declared.shared.Shared.TheVariants.{Nothing, Metric, Source}
-use Rattle.row_chunks.specs.Cut.{keeps}
-use Rattle.row_chunks.specs.Shared.{cut_shares, keeps_in, order_of_rest, shares}
+use Rattle.row_chunks.specs.Blocks.{AllBegin, Placed, first_rows, joined}
+use Rattle.row_chunks.specs.Cut.{keeps, rows_behind}
+use Rattle.row_chunks.specs.Shared.{AllShare, cut_shares, keeps_in, order_of_rest, shares}
+use Rattle.row_chunks.proofs.BlockLemmas.{begin_drop, none_behind, sorted_drop}
 use Rattle.row_chunks.proofs.CutLemmas.{cut_partitioned}
 
 -- ---- the order of the rest
@@ -79,47 +85,6 @@ between_cut (Behind low) shared a x b below above one other = between_shares low
 between_cut (BeforeSpan span) shared a x b below above one other = refl
 between_cut (BehindSpan span) shared a x b below above one other = refl
 
--- ---- along what is sorted by keys
-
--- the last isn't before the first
-to_last : {X : Type 0} (key_of : X → Key) (x : X) (xs : List X) (last : ℕ) (e : X) → IsStrictlySortedBy key_cmp (map key_of (x ∷ xs))
-    → length (x ∷ xs) ≡ last + 1 → (x ≡ get_or (x ∷ xs) last e) ⊎ (key_cmp (key_of x) (key_of (get_or (x ∷ xs) last e)) ≡ Less)
-to_last key_of x [] zero e sorted all = inl refl
-to_last key_of x [] (suc last) e sorted all = absurd (omega (arith, all))
-to_last key_of x (y ∷ xs) zero e sorted all = absurd (omega (arith, all))
-to_last key_of x (y ∷ xs) (suc last) e sorted all =
-    by (to_last key_of y xs last e (sorted_tail key_cmp (key_of x) (map key_of (y ∷ xs)) sorted) (omega (arith, all)))
-  where
-    step : key_cmp (key_of x) (key_of y) ≡ Less
-    step = (sorted_head key_cmp (key_of x) (map key_of (y ∷ xs)) sorted).0
-
-    by : (y ≡ get_or (y ∷ xs) last e) ⊎ (key_cmp (key_of y) (key_of (get_or (y ∷ xs) last e)) ≡ Less)
-        → (x ≡ get_or (x ∷ y ∷ xs) (suc last) e) ⊎ (key_cmp (key_of x) (key_of (get_or (x ∷ y ∷ xs) (suc last) e)) ≡ Less)
-    by (inl same) = inr (subst (λ z. key_cmp (key_of x) (key_of z) ≡ Less) same step)
-    by (inr less) = inr (key_cmp_total.trans (key_of x) (key_of y) (key_of (get_or (y ∷ xs) last e)) step less)
-
--- what the first and the last have in common with the key of a cut, all have
-all_share : {X : Type 0} (key_of : X → Key) (cut : Cut) (shared : Shared) (x : X) (xs : List X) (last : ℕ) (e : X) → IsStrictlySortedBy key_cmp (map key_of (x ∷ xs))
-    → length (x ∷ xs) ≡ last + 1 → cut_shares cut shared (key_of x) ≡ true → cut_shares cut shared (key_of (get_or (x ∷ xs) last e)) ≡ true
-    → AllByRecursion (λ y. cut_shares cut shared (key_of y) ≡ true) (x ∷ xs)
-all_share key_of cut shared x [] last e sorted all first final = (first, tt)
-all_share key_of cut shared x (y ∷ xs) zero e sorted all first final = absurd (omega (arith, all))
-all_share key_of cut shared x (y ∷ xs) (suc last) e sorted all first final =
-    let rest = sorted_tail key_cmp (key_of x) (map key_of (y ∷ xs)) sorted in
-    (first, all_share key_of cut shared y xs last e rest (omega (arith, all)) (by (to_last key_of y xs last e rest (omega (arith, all)))) final)
-  where
-    by : (y ≡ get_or (y ∷ xs) last e) ⊎ (key_cmp (key_of y) (key_of (get_or (y ∷ xs) last e)) ≡ Less) → cut_shares cut shared (key_of y) ≡ true
-    by (inl same) = subst (λ z. cut_shares cut shared (key_of z) ≡ true) (sym same) final
-    by (inr less) =
-        between_cut cut shared (key_of x) (key_of y) (key_of (get_or (y ∷ xs) last e)) (sorted_head key_cmp (key_of x) (map key_of (y ∷ xs)) sorted).0 less first final
-
--- the same of a list that isn't taken apart
-pub all_shared : {X : Type 0} (key_of : X → Key) (cut : Cut) (shared : Shared) (xs : List X) (last : ℕ) (d e : X) → IsStrictlySortedBy key_cmp (map key_of xs)
-    → length xs ≡ last + 1 → cut_shares cut shared (key_of (get_or xs 0 d)) ≡ true → cut_shares cut shared (key_of (get_or xs last e)) ≡ true
-    → AllByRecursion (λ y. cut_shares cut shared (key_of y) ≡ true) xs
-all_shared key_of cut shared [] last d e sorted all first final = tt
-all_shared key_of cut shared (x ∷ xs) last d e sorted all first final = all_share key_of cut shared x xs last e sorted all first final
-
 -- ---- a search
 
 -- what holds of all holds of each
@@ -148,3 +113,94 @@ point_in {X} key_of cut shared xs at within share point =
       λ k d low high. ap not (sym (of k d (omega (arith, high, within)))) ∙ point.0 k d low high,
       λ k d low high. ap not (sym (of k d high)) ∙ point.1 k d low high,
     )
+
+-- where the last row isn't behind a cut, by what it doesn't share, none is
+pub none_in : (cut : Cut) (shared : Shared) (rows : Rows) (row : Key × Value) → AreSorted rows → AllShare cut shared rows
+    → Some row ≡ slice_get rows (length rows - 1) → keeps_in cut shared row.0 ≡ false → rows_behind cut rows ≡ []
+none_in cut shared [] row s h is k = refl
+none_in cut shared (first ∷ rows) row s h is k =
+    let place : length (first ∷ rows) - 1 ≡ length rows = omega arith in
+    let there : get_or (first ∷ rows) (length rows) row ≡ row =
+    get_or_from_slice_get (first ∷ rows) (length rows) row row (sym (is ∙ ap (slice_get (first ∷ rows)) place)) in
+    let share : cut_shares cut shared row.0 ≡ true =
+    rw there at
+    (holds_at (λ (one : Key × Value). cut_shares cut shared one.0 ≡ true) (first ∷ rows) (length rows) row (omega arith) h) in
+    none_behind cut (first ∷ rows) row s is (sym (kept_in cut shared row.0 share) ∙ k)
+
+-- ---- rows in blocks
+
+-- what rows share, the first and the last of them do
+share_left : (cut : Cut) (shared : Shared) (front back : Rows) → AllShare cut shared (front ++ back)
+    → AllShare cut shared front
+share_left cut shared [] back h = tt
+share_left cut shared (row ∷ front) back h = (h.0, share_left cut shared front back h.1)
+
+share_right : (cut : Cut) (shared : Shared) (front back : Rows) → AllShare cut shared (front ++ back)
+    → AllShare cut shared back
+share_right cut shared [] back h = h
+share_right cut shared (row ∷ front) back h = share_right cut shared front back h.1
+
+-- so do the rows of a block
+pub rows_share : (cut : Cut) (shared : Shared) (slots : List Placed) (at : ℕ) → AllShare cut shared (joined slots)
+    → AllShare cut shared (first_rows (drop at slots))
+rows_share cut shared [] zero h = tt
+rows_share cut shared [] (suc at) h = tt
+rows_share cut shared (slot ∷ slots) zero h = share_left cut shared slot.rows (joined slots) h
+rows_share cut shared (slot ∷ slots) (suc at) h =
+    rows_share cut shared slots at (share_right cut shared slot.rows (joined slots) h)
+
+-- and the first keys of blocks
+pub firsts_share : (cut : Cut) (shared : Shared) (slots : List Placed) → AllBegin slots
+    → AllShare cut shared (joined slots) → AllByRecursion (λ slot. cut_shares cut shared slot.first ≡ true) slots
+firsts_share cut shared [] b h = tt
+firsts_share cut shared (slot ∷ slots) b h =
+    let begun : AllShare cut shared ((slot.first, b.0.value) ∷ (b.0.rest ++ joined slots)) = rw b.0.whole at h in
+    (begun.0, firsts_share cut shared slots b.1 (share_right cut shared slot.rows (joined slots) h))
+
+-- as the first key of the block at a place
+pub first_shares : (cut : Cut) (shared : Shared) (slots : List Placed) (at : ℕ) (slot : Placed) → at < length slots
+    → slot ≡ get_or slots at slot → AllBegin slots → AllShare cut shared (joined slots)
+    → cut_shares cut shared slot.first ≡ true
+first_shares cut shared slots at slot within is b h =
+    subst (λ (one : Placed). cut_shares cut shared one.first ≡ true) (sym is)
+    (holds_at (λ (one : Placed). cut_shares cut shared one.first ≡ true) slots at slot within
+    (firsts_share cut shared slots b h))
+
+-- what two keys have in common with that of a cut, the rows between them have
+rows_between : (cut : Cut) (shared : Shared) (a b : Key) (rows : Rows) → ArePast a rows → AreBefore b rows
+    → cut_shares cut shared a ≡ true → cut_shares cut shared b ≡ true → AllShare cut shared rows
+rows_between cut shared a b [] past before one other = tt
+rows_between cut shared a b (row ∷ rows) past before one other =
+    let here = between_cut cut shared a row.0 b past.0 (greater_back b row.0 before.0) one other in
+    (here, rows_between cut shared a b rows past.1 before.1 one other)
+
+-- so what the first keys of a block and of the next have, the rows of the block have
+block_between : (cut : Cut) (shared : Shared) (slot next : Placed) (slots : List Placed)
+    → AllBegin (slot ∷ next ∷ slots) → AreSorted (joined (slot ∷ next ∷ slots)) → cut_shares cut shared slot.first ≡ true
+    → cut_shares cut shared next.first ≡ true → AllShare cut shared slot.rows
+block_between cut shared slot next slots b s one other =
+    let first : Key × Value = (slot.first, b.0.value) in
+    let second : Key × Value = (next.first, b.1.0.value) in
+    let more = b.1.0.rest ++ joined slots in
+    let begun : AreSorted ((first ∷ b.0.rest) ++ second ∷ more) = rw (b.0.whole, b.1.0.whole) at s in
+    let before : AreBefore next.first (first ∷ b.0.rest) = before_middle (first ∷ b.0.rest) second more begun in
+    let own : AreSorted (first ∷ b.0.rest) = sorted_left (first ∷ b.0.rest) (second ∷ more) begun in
+    let past : ArePast slot.first b.0.rest = past_first first b.0.rest own in
+    rw b.0.whole (one, rows_between cut shared slot.first next.first b.0.rest past before.1 one other)
+
+-- and those of the block at a place
+pub rows_share_between : (cut : Cut) (shared : Shared) (slots : List Placed) (at : ℕ) (slot next : Placed)
+    → at + 1 < length slots → slot ≡ get_or slots at slot → next ≡ get_or slots (at + 1) next → AllBegin slots
+    → AreSorted (joined slots) → cut_shares cut shared slot.first ≡ true → cut_shares cut shared next.first ≡ true
+    → AllShare cut shared (first_rows (drop at slots))
+rows_share_between cut shared slots at slot next within is follows b s one other =
+    let later = drop (at + 1 + 1) slots in
+    let second : drop (at + 1) slots ≡ next ∷ later =
+    drop_more slots (at + 1) next within ∙ ap (λ (one : Placed). one ∷ later) (sym follows) in
+    let both : drop at slots ≡ slot ∷ next ∷ later =
+    drop_more slots at slot (omega arith)
+    ∙ ap (λ (one : Placed). one ∷ drop (at + 1) slots) (sym is)
+    ∙ ap (λ (more : List Placed). slot ∷ more) second in
+    let begun : AllBegin (slot ∷ next ∷ later) = rw both at (begin_drop slots at b) in
+    let sorted : AreSorted (joined (slot ∷ next ∷ later)) = rw both at (sorted_drop slots at s) in
+    rw both (block_between cut shared slot next later begun sorted one other)

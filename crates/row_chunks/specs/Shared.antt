@@ -1,11 +1,13 @@
 -- What the key of a cost has in common with other keys, and how they are ordered by the rest.
-use Rattle.std.specs.Prelude.{Bool, true, false, not}
+use Rattle.std.specs.Prelude.{◌≡◌, Bool, true, false, not}
+use Rattle.std.specs.List.{AllByRecursion}
 use Rattle.std.specs.Ordering.{is_gt, is_lt, ordering_then}
 use Rattle.std.specs.declared.cmp.Ordering.{Ordering}
 use Rattle.alto_rows.specs.declared.key.Key.{Key}
 use Rattle.alto_rows.specs.declared.key.Key.TheVariants as key
 use Rattle.alto_rows.specs.declared.span.Span.TheVariants as span
 use Rattle.alto_rows.specs.Order.{key_cmp, name_cmp}
+use Rattle.alto_rows.specs.Rows.{Rows}
 use Rattle.alto_rows.specs.Span.{is_in}
 use Rattle.row_chunks.specs.declared.cut.Cut.{Cut}
 use Rattle.row_chunks.specs.declared.cut.Cut.TheVariants.{Before, Behind, BeforeSpan, BehindSpan}
@@ -34,6 +36,10 @@ cut_shares (Before low) shared at = shares low.now shared at
 cut_shares (Behind low) shared at = shares low.now shared at
 cut_shares (BeforeSpan span) shared at = true
 cut_shares (BehindSpan span) shared at = true
+
+-- the keys of all rows have so much in common with that of a cut
+abbrev pub AllShare : Cut → Shared → Rows → Type 0
+AllShare cut shared rows = AllByRecursion (λ row. cut_shares cut shared row.0 ≡ true) rows
 
 -- a key is behind a cut, by what it doesn't have in common with it
 abbrev pub keeps_in : Cut → Shared → Key → Bool

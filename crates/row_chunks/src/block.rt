@@ -4,9 +4,11 @@ ghost use Rattle.alto_rows.specs.Changes.{AreOrdered, changed};
 ghost use Rattle.alto_rows.specs.Rows.{Rows, AreSorted, IsRunOf};
 ghost use Rattle.row_chunks.specs.Blocks.{first_key};
 ghost use Rattle.row_chunks.specs.Cut.{rows_behind};
+ghost use Rattle.row_chunks.specs.Shared.{AllShare};
 
 use crate::changes::Change;
 use crate::cut::Cut;
+use crate::shared::Shared;
 use alto_rows::{Key, Value};
 use std::alloc::{AllocError, Global};
 
@@ -33,15 +35,22 @@ pub(crate) trait Block: Drop {
     fn first_key(&self) -> Option<&Key>
         ensures { option_copied result ≡ first_key (rows self.now) };
 
+    /// The first rows that lie together: empty exactly where there are no rows. No search.
+    fn first_run(&self) -> &[(Key, Value)]
+        ensures { IsRunOf (rows self.now) result.now };
+
     /// The rows behind a cut that lie together, from the first such row on: empty exactly where there is none. One
-    /// binary search a level.
-    fn run_behind(&self, cut: &Cut) -> &[(Key, Value)]
-        requires { AreSorted (rows self.now) }
+    /// binary search a level, which doesn't compare what all rows are known to share with the cut.
+    fn run_behind(&self, cut: &Cut, shared: Shared) -> &[(Key, Value)]
+        requires sorted { AreSorted (rows self.now) }
+        requires shared { AllShare cut.now shared (rows self.now) }
         ensures { IsRunOf (rows_behind cut.now (rows self.now)) result.now };
 
-    /// How many rows are behind a cut. One binary search a level.
-    fn count_behind(&self, cut: &Cut) -> usize
-        requires { AreSorted (rows self.now) }
+    /// How many rows are behind a cut. One binary search a level, which doesn't compare what all rows are known to
+    /// share with the cut.
+    fn count_behind(&self, cut: &Cut, shared: Shared) -> usize
+        requires sorted { AreSorted (rows self.now) }
+        requires shared { AllShare cut.now shared (rows self.now) }
         ensures { result ≡ length (rows_behind cut.now (rows self.now)) };
 
     /// These rows, and behind them those of another block after changes. One pass over that block and the changes:

@@ -1,11 +1,11 @@
-ghost use Rattle.std.specs.Prelude.{◌≡◌, ◌≤◌, ◌*◌, ◌++◌, [], IfOk, drop, length, option_copied, true};
+ghost use Rattle.std.specs.Prelude.{◌≡◌, ◌≤◌, ◌*◌, ◌++◌, [], IfOk, drop, length, option_copied};
 ghost use Rattle.std.specs.List.{AllByRecursion, flat_map};
 ghost use Rattle.alto_rows.specs.Changes.{AreOrdered, changed};
 ghost use Rattle.alto_rows.specs.Rows.{Rows, AreSorted, IsRunOf};
 ghost use Rattle.row_chunks.specs.Blocks.{AllBegin, AreCounted, BeginsAt, first_key, first_rows, joined};
 ghost use Rattle.row_chunks.specs.Cut.{rows_behind};
 ghost use Rattle.row_chunks.specs.Passed.{IsPassed};
-ghost use Rattle.row_chunks.specs.Shared.{cut_shares};
+ghost use Rattle.row_chunks.specs.Shared.{AllShare};
 
 use crate::block::Block;
 use crate::builder::changed_blocks;
@@ -63,14 +63,18 @@ impl<B: Block> Block for Blocks<B> {
         Some(self.slots.first()?.key())
     }
 
-    fn run_behind(&self, cut: &Cut) -> &[(Key, Value)] {
-        let passed = count_passed(&self.slots, cut);
-        run_round(&self.slots, passed, cut)
+    fn first_run(&self) -> &[(Key, Value)] {
+        first_run_at(&self.slots, 0)
     }
 
-    fn count_behind(&self, cut: &Cut) -> usize {
-        let passed = count_passed(&self.slots, cut);
-        count_round(&self.slots, self.total, passed, cut)
+    fn run_behind(&self, cut: &Cut, shared: Shared) -> &[(Key, Value)] {
+        let passed = count_passed(&self.slots, cut, shared);
+        run_round(&self.slots, passed, cut, shared)
+    }
+
+    fn count_behind(&self, cut: &Cut, shared: Shared) -> usize {
+        let passed = count_passed(&self.slots, cut, shared);
+        count_round(&self.slots, self.total, passed, cut, shared)
     }
 
     fn with_changed(
@@ -149,18 +153,25 @@ impl<B: Block> Blocks<B> {
 }
 
 /// How many rows are behind a cut, where so many blocks begin before it.
-fn count_round<B: Block>(slots: &[Slot<B>], total: usize, passed: usize, cut: &Cut) -> usize
+fn count_round<B: Block>(
+    slots: &[Slot<B>],
+    total: usize,
+    passed: usize,
+    cut: &Cut,
+    shared: Shared,
+) -> usize
     requires begin { AllBegin slots.now }
     requires counted { AreCounted 0 total slots.now }
     requires sorted { AreSorted (joined slots.now) }
     requires passed { IsPassed cut.now slots.now passed }
+    requires shared { AllShare cut.now shared (joined slots.now) }
     ensures { result ≡ length (rows_behind cut.now (joined slots.now)) }
 {
     let later = count_from(slots, total, passed);
     let Some(last) = passed.checked_sub(1) else {
         return later;
     };
-    count_at(slots, last, cut) + later
+    count_at(slots, last, cut, shared_at(slots, last, cut, shared)) + later
 }
 
 /// How many rows the blocks from a place on have.
@@ -175,63 +186,93 @@ fn count_from<B: Block>(slots: &[Slot<B>], total: usize, at: usize) -> usize
 }
 
 /// How many rows of a block are behind a cut, none where it isn't there.
-fn count_at<B: Block>(slots: &[Slot<B>], at: usize, cut: &Cut) -> usize
-    requires { AreSorted (joined slots.now) }
+fn count_at<B: Block>(slots: &[Slot<B>], at: usize, cut: &Cut, shared: Shared) -> usize
+    requires sorted { AreSorted (joined slots.now) }
+    requires shared { AllShare cut.now shared (first_rows (drop at slots.now)) }
     ensures { result ≡ length (rows_behind cut.now (first_rows (drop at slots.now))) }
 {
     match slots.get(at) {
-        Some(slot) => slot.block().count_behind(cut),
+        Some(slot) => slot.block().count_behind(cut, shared),
         None => 0,
     }
 }
 
-/// How many blocks begin before a cut. One binary search, which doesn't compare what all first keys have in common with
+/// How many blocks begin before a cut. One binary search, which doesn't compare what all rows are known to share with
 /// the cut.
-fn count_passed<B: Block>(slots: &[Slot<B>], cut: &Cut) -> usize
+fn count_passed<B: Block>(slots: &[Slot<B>], cut: &Cut, shared: Shared) -> usize
     requires begin { AllBegin slots.now }
     requires sorted { AreSorted (joined slots.now) }
+    requires shared { AllShare cut.now shared (joined slots.now) }
     ensures { IsPassed cut.now slots.now result }
 {
-    let shared = shared_by_slots(slots, cut);
     slots.partition_point(|slot| !cut.keeps_in(slot.key(), shared))
 }
 
-/// What the first keys of all blocks have in common with the key of a cut. It looks at the first and the last.
-fn shared_by_slots<B: Block>(slots: &[Slot<B>], cut: &Cut) -> Shared
+/// What all rows of the block at a place share with a cut, where all rows share so much, which isn't compared. They lie
+/// between the first keys of the block and of the next, and it looks at these alone: no block is read.
+fn shared_at<B: Block>(slots: &[Slot<B>], at: usize, cut: &Cut, shared: Shared) -> Shared
     requires begin { AllBegin slots.now }
     requires sorted { AreSorted (joined slots.now) }
-    ensures { AllByRecursion (λ slot. cut_shares cut.now result slot.first ≡ true) slots.now }
+    requires shared { AllShare cut.now shared (joined slots.now) }
+    ensures { AllShare cut.now result (first_rows (drop at slots.now)) }
 {
-    match slots.len().checked_sub(1) {
-        Some(last) => cut.shared(slots[0].key(), slots[last].key()),
-        None => Shared::Nothing,
+    let Some(slot) = slots.get(at) else {
+        return shared;
+    };
+    match slots.get(at + 1) {
+        Some(next) => cut.shared(slot.key(), next.key(), shared),
+        None => shared,
     }
 }
 
-/// The first rows of a block that are behind a cut, none where it isn't there.
-fn run_at<'a, B: Block>(slots: &'a [Slot<B>], at: usize, cut: &Cut) -> &'a [(Key, Value)]
-    requires { AreSorted (joined slots.now) }
-    ensures { IsRunOf (rows_behind cut.now (first_rows (drop at slots.now))) result.now }
+/// The first rows of the blocks from a place on that lie together, none where there is no block.
+fn first_run_at<'a, B: Block>(slots: &'a [Slot<B>], at: usize) -> &'a [(Key, Value)]
+    requires { AllBegin slots.now }
+    ensures { IsRunOf (joined (drop at slots.now)) result.now }
 {
     match slots.get(at) {
-        Some(slot) => slot.block().run_behind(cut),
+        Some(slot) => slot.block().first_run(),
         None => &[],
     }
 }
 
-/// The rest of the block that a cut goes through or, where that is used up, the next block.
-fn run_round<'a, B: Block>(slots: &'a [Slot<B>], passed: usize, cut: &Cut) -> &'a [(Key, Value)]
+/// The first rows of a block that are behind a cut, none where it isn't there.
+fn run_at<'a, B: Block>(
+    slots: &'a [Slot<B>],
+    at: usize,
+    cut: &Cut,
+    shared: Shared,
+) -> &'a [(Key, Value)]
+    requires sorted { AreSorted (joined slots.now) }
+    requires shared { AllShare cut.now shared (first_rows (drop at slots.now)) }
+    ensures { IsRunOf (rows_behind cut.now (first_rows (drop at slots.now))) result.now }
+{
+    match slots.get(at) {
+        Some(slot) => slot.block().run_behind(cut, shared),
+        None => &[],
+    }
+}
+
+/// The rest of the block that a cut goes through or, where that is used up, the first run of the next, which isn't
+/// searched.
+fn run_round<'a, B: Block>(
+    slots: &'a [Slot<B>],
+    passed: usize,
+    cut: &Cut,
+    shared: Shared,
+) -> &'a [(Key, Value)]
     requires begin { AllBegin slots.now }
     requires sorted { AreSorted (joined slots.now) }
     requires passed { IsPassed cut.now slots.now passed }
+    requires shared { AllShare cut.now shared (joined slots.now) }
     ensures { IsRunOf (rows_behind cut.now (joined slots.now)) result.now }
 {
     let Some(last) = passed.checked_sub(1) else {
-        return run_at(slots, 0, cut);
+        return first_run_at(slots, 0);
     };
-    let run = run_at(slots, last, cut);
+    let run = run_at(slots, last, cut, shared_at(slots, last, cut, shared));
     if run.is_empty() {
-        run_at(slots, passed, cut)
+        first_run_at(slots, passed)
     } else {
         run
     }

@@ -4,7 +4,7 @@ ghost use Rattle.alto_rows.specs.Changes.{AreOrdered, changed};
 ghost use Rattle.alto_rows.specs.Rows.{Rows, AreSorted, IsRunOf};
 ghost use Rattle.row_chunks.specs.Blocks.{first_key};
 ghost use Rattle.row_chunks.specs.Cut.{rows_behind};
-ghost use Rattle.row_chunks.specs.Shared.{cut_shares};
+ghost use Rattle.row_chunks.specs.Shared.{AllShare};
 
 use crate::block::Block;
 use crate::changes::Change;
@@ -54,12 +54,16 @@ impl Block for Chunk {
         Some(&self.rows.first()?.0)
     }
 
-    fn run_behind(&self, cut: &Cut) -> &[(Key, Value)] {
-        tail_behind(&self.rows, cut)
+    fn first_run(&self) -> &[(Key, Value)] {
+        &self.rows
     }
 
-    fn count_behind(&self, cut: &Cut) -> usize {
-        tail_behind(&self.rows, cut).len()
+    fn run_behind(&self, cut: &Cut, shared: Shared) -> &[(Key, Value)] {
+        tail_behind(&self.rows, cut, shared)
+    }
+
+    fn count_behind(&self, cut: &Cut, shared: Shared) -> usize {
+        tail_behind(&self.rows, cut, shared).len()
     }
 
     fn with_changed(
@@ -84,23 +88,28 @@ impl Block for Chunk {
     }
 }
 
-/// The rows behind a cut. One binary search, which doesn't compare what all rows have in common with the cut.
-fn tail_behind<'a>(rows: &'a [(Key, Value)], cut: &Cut) -> &'a [(Key, Value)]
-    requires { AreSorted rows.now }
+/// The rows behind a cut. One binary search, which doesn't compare what all rows are known to share with the cut; one
+/// comparison where the cut is behind the key of the last row, as it is where a walk goes on.
+fn tail_behind<'a>(rows: &'a [(Key, Value)], cut: &Cut, shared: Shared) -> &'a [(Key, Value)]
+    requires sorted { AreSorted rows.now }
+    requires shared { AllShare cut.now shared rows.now }
     ensures { result.now ≡ rows_behind cut.now rows.now }
 {
-    let shared = shared_by_rows(rows, cut);
+    if is_used_up(rows, cut, shared) {
+        return &[];
+    }
     let at = rows.partition_point(|row| !cut.keeps_in(&row.0, shared));
     &rows[at..]
 }
 
-/// What all rows have in common with the key of a cut. It looks at the first and the last.
-fn shared_by_rows(rows: &[(Key, Value)], cut: &Cut) -> Shared
-    requires { AreSorted rows.now }
-    ensures { AllByRecursion (λ row. cut_shares cut.now result row.0 ≡ true) rows.now }
+/// Whether a cut behind a key has no rows behind it. Looks at the last row, and of other cuts at none.
+fn is_used_up(rows: &[(Key, Value)], cut: &Cut, shared: Shared) -> bool
+    requires sorted { AreSorted rows.now }
+    requires shared { AllShare cut.now shared rows.now }
+    ensures { result ≡ true → rows_behind cut.now rows.now ≡ [] }
 {
-    match rows.len().checked_sub(1) {
-        Some(last) => cut.shared(&rows[0].0, &rows[last].0),
-        None => Shared::Nothing,
+    match (cut, rows.last()) {
+        (Cut::Behind(_), Some(row)) => !cut.keeps_in(&row.0, shared),
+        _ => false,
     }
 }

@@ -43,14 +43,17 @@ impl Cut<'_> {
         }
     }
 
-    /// What two keys have in common with that of the cut: nothing that is known, where it is of a span.
-    pub(crate) fn shared(&self, first: &Key, last: &Key) -> Shared
+    /// What two keys have in common with that of the cut, where both are known to have so much, which isn't compared.
+    /// No more is known, where the cut is of a span.
+    pub(crate) fn shared(&self, first: &Key, last: &Key, known: Shared) -> Shared
+        requires first { cut_shares self.now known first.now ≡ true }
+        requires last { cut_shares self.now known last.now ≡ true }
         ensures first { cut_shares self.now result first.now ≡ true }
         ensures last { cut_shares self.now result last.now ≡ true }
     {
         match self {
-            Cut::Before(low) | Cut::Behind(low) => shared_by(*low, first, last),
-            Cut::BeforeSpan(_) | Cut::BehindSpan(_) => Shared::Nothing,
+            Cut::Before(low) | Cut::Behind(low) => shared_by(*low, first, last, known),
+            Cut::BeforeSpan(_) | Cut::BehindSpan(_) => known,
         }
     }
 }

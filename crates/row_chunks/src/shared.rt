@@ -45,18 +45,32 @@ fn order_of_pair(source: &PidName, destination: &PidName, from: &PidName, to: &P
     }
 }
 
-/// What two keys have in common with another.
-pub(crate) fn shared_by(low: &Key, first: &Key, last: &Key) -> Shared
+/// What two keys have in common with another, where both are known to have so much, which isn't compared.
+pub(crate) fn shared_by(low: &Key, first: &Key, last: &Key, known: Shared) -> Shared
+    requires first { shares low.now known first.now ≡ true }
+    requires last { shares low.now known last.now ≡ true }
     ensures first { shares low.now result first.now ≡ true }
     ensures last { shares low.now result last.now ≡ true }
 {
-    if !same_metric(low, first) || !same_metric(low, last) {
-        return Shared::Nothing;
+    match known {
+        Shared::Nothing if !same_metric(low, first) || !same_metric(low, last) => Shared::Nothing,
+        Shared::Nothing | Shared::Metric => shared_in_metric(low, first, last),
+        Shared::Source => Shared::Source,
     }
-    if !same_source(low, first) || !same_source(low, last) {
-        return Shared::Metric;
+}
+
+/// What two keys in the metric of another have in common with it. Only sources are compared.
+fn shared_in_metric(low: &Key, first: &Key, last: &Key) -> Shared
+    requires first { shares low.now Shared.Metric first.now ≡ true }
+    requires last { shares low.now Shared.Metric last.now ≡ true }
+    ensures first { shares low.now result first.now ≡ true }
+    ensures last { shares low.now result last.now ≡ true }
+{
+    if same_source(low, first) && same_source(low, last) {
+        Shared::Source
+    } else {
+        Shared::Metric
     }
-    Shared::Source
 }
 
 /// Whether two keys are of costs in one metric.
@@ -71,14 +85,13 @@ fn same_metric(low: &Key, key: &Key) -> bool
     }
 }
 
-/// Whether two keys are of costs in one metric from one source.
+/// Whether two keys of costs in one metric are of one source. Nothing else is compared.
 fn same_source(low: &Key, key: &Key) -> bool
+    requires { shares low.now Shared.Metric key.now ≡ true }
     ensures { result ≡ shares low.now Shared.Source key.now }
 {
     match (low, key) {
-        (Key::Cost(net, metric, source, _), Key::Cost(of, other, from, _)) => {
-            net == of && (metric == other && source == from)
-        }
+        (Key::Cost(_, _, source, _), Key::Cost(_, _, from, _)) => source == from,
         _ => false,
     }
 }

@@ -7,6 +7,7 @@ use crate::blocks::Blocks;
 use crate::changes::changes_of;
 use crate::chunk::Chunk;
 use crate::cut::Cut;
+use crate::shared::Shared;
 use alto_rows::{Key, RowStore, Span, Value, Write};
 use std::alloc::{AllocError, Global};
 use std::marker::Model;
@@ -57,15 +58,16 @@ impl RowStore for Chunks {
 
     /// The rest of a chunk or, where that is used up, the next chunk.
     fn run_from(&self, key: &Key) -> &[(Key, Value)] {
-        self.pages.run_behind(&Cut::Before(key))
+        self.pages.run_behind(&Cut::Before(key), Shared::Nothing)
     }
 
     fn run_after(&self, key: &Key) -> &[(Key, Value)] {
-        self.pages.run_behind(&Cut::Behind(key))
+        self.pages.run_behind(&Cut::Behind(key), Shared::Nothing)
     }
 
     fn run_in(&self, span: &Span) -> &[(Key, Value)] {
-        self.pages.run_behind(&Cut::BeforeSpan(span))
+        self.pages
+            .run_behind(&Cut::BeforeSpan(span), Shared::Nothing)
     }
 
     fn len(&self) -> usize {
@@ -75,8 +77,12 @@ impl RowStore for Chunks {
     /// Six searches: for each end of the span one among the first keys of pages, one among those of a page's chunks,
     /// and one in a chunk.
     fn count_in(&self, span: &Span) -> usize {
-        let from = self.pages.count_behind(&Cut::BeforeSpan(span));
-        let past = self.pages.count_behind(&Cut::BehindSpan(span));
+        let from = self
+            .pages
+            .count_behind(&Cut::BeforeSpan(span), Shared::Nothing);
+        let past = self
+            .pages
+            .count_behind(&Cut::BehindSpan(span), Shared::Nothing);
         from - past
     }
 

@@ -14,10 +14,10 @@ pub returns : goal.returns
 returns c =
     let rows = c.args.rows.now in
     let cut = c.args.cut.now in
-    let shared = c.shared_by_rows-shared.result in
+    let shared = c.args.shared in
     let at = c.partition_point-at.result in
     take_rest rows at
     ∙ drop_at_cut cut rows at
-    (point_in (λ (row : Key × Value). row.0) cut shared rows at c.partition_point-at.ensures.bound c.shared_by_rows-shared.ensures
+    (point_in (λ (row : Key × Value). row.0) cut shared rows at c.partition_point-at.ensures.bound c.requires.shared
     (IsPartitionPoint-from_clause (λ row. not (keeps_in cut shared row.0)) rows at c.partition_point-at.ensures.partitioned
-    (partitioned_in (λ (row : Key × Value). row.0) cut shared rows c.requires c.shared_by_rows-shared.ensures) (λ a r f k. search rules)))
+    (partitioned_in (λ (row : Key × Value). row.0) cut shared rows c.requires.sorted c.requires.shared) (λ a r f k. search rules)))
