@@ -30,8 +30,10 @@ fn records(alloc: Global, record: &str, count: u32) -> Result<String, AllocError
 }
 
 /// The view after three hundred imports that touch the map, with the last eight numbers.
-const THREE_HUNDRED: &str =
-    r#"POST /tips | Content-Type: application/alto-tipsparams+json~ | {"resource-id":"metro","tag":"e1-296"} | 200 OK | alto-tips+json | {"tips-view-summary":{"updates-graph-summary":{"end-seq":301,"start-edge-rec":{"seq-i":296,"seq-j":300},"start-seq":294}},"tips-view-uri":"http://localhost/tips/metro"}"#;
+const THREE_HUNDRED: &str = r#"POST /tips | Content-Type: application/alto-tipsparams+json~
+    | {"resource-id":"metro","tag":"e1-296"}
+    | 200 OK | alto-tips+json | {"tips-view-summary":{"updates-graph-summary":{"end-seq":301,
+    "start-edge-rec":{"seq-i":296,"seq-j":300},"start-seq":294}},"tips-view-uri":"http://localhost/tips/metro"}"#;
 
 #[test]
 fn three_hundred_imports_behind_one_of_as_many_edits_as_may_be(
@@ -53,10 +55,18 @@ fn three_hundred_imports_behind_one_of_as_many_edits_as_may_be(
 }
 
 /// The views and edges of a cost map behind thirty-one imports of which each but the first puts one cost.
-const THIRTY_COSTS: &str =
-    r#"POST /tips | Content-Type: application/alto-tipsparams+json~ | {"resource-id":"metro:cost:routingcost","tag":"e1-20"} | 200 OK | alto-tips+json | {"tips-view-summary":{"updates-graph-summary":{"end-seq":31,"start-edge-rec":{"seq-i":0,"seq-j":31},"start-seq":24}},"tips-view-uri":"http://localhost/tips/metro:cost:routingcost"}
-POST /tips | Content-Type: application/alto-tipsparams+json~ | {"resource-id":"metro:cost:routingcost","tag":"e1-24"} | 200 OK | alto-tips+json | {"tips-view-summary":{"updates-graph-summary":{"end-seq":31,"start-edge-rec":{"seq-i":24,"seq-j":28},"start-seq":24}},"tips-view-uri":"http://localhost/tips/metro:cost:routingcost"}
-GET /tips/metro:cost:routingcost/ug/24/28 | | | 200 OK | merge-patch+json | {"cost-map":{"p0":{"p24":1024,"p25":1025,"p26":1026,"p27":1027}}}
+const THIRTY_COSTS: &str = r#"POST /tips | Content-Type: application/alto-tipsparams+json~
+    | {"resource-id":"metro:cost:routingcost","tag":"e1-20"}
+    | 200 OK | alto-tips+json | {"tips-view-summary":{"updates-graph-summary":{"end-seq":31,
+    "start-edge-rec":{"seq-i":0,"seq-j":31},"start-seq":24}},
+    "tips-view-uri":"http://localhost/tips/metro:cost:routingcost"}
+POST /tips | Content-Type: application/alto-tipsparams+json~
+    | {"resource-id":"metro:cost:routingcost","tag":"e1-24"}
+    | 200 OK | alto-tips+json | {"tips-view-summary":{"updates-graph-summary":{"end-seq":31,
+    "start-edge-rec":{"seq-i":24,"seq-j":28},"start-seq":24}},
+    "tips-view-uri":"http://localhost/tips/metro:cost:routingcost"}
+GET /tips/metro:cost:routingcost/ug/24/28 | |
+    | 200 OK | merge-patch+json | {"cost-map":{"p0":{"p24":1024,"p25":1025,"p26":1026,"p27":1027}}}
 GET /tips/metro:cost:routingcost/ug/28/30 | | | 200 OK | merge-patch+json | {"cost-map":{"p0":{"p28":1028,"p29":1029}}}
 GET /tips/metro:cost:routingcost/ug/30/31 | | | 200 OK | merge-patch+json | {"cost-map":{"p0":{"p30":1030}}}
 GET /tips/metro:cost:routingcost/ug/23/24 | | | 410 Gone | json | {"start-seq":24,"status":410}"#;
@@ -157,8 +167,12 @@ fn drill_records(alloc: Global, k: u64, draws: &mut Draws) -> Result<String, All
 
 /// The view after a drill of forty imports: each touches the map, and the last eight numbers are kept.
 const DRILLED: &str =
-    r#"POST /tips | Content-Type: application/alto-tipsparams+json~ | {"resource-id":"d","tag":"e1-36"} | 200 OK | alto-tips+json | {"tips-view-summary":{"updates-graph-summary":{"end-seq":40,"start-edge-rec":{"seq-i":36,"seq-j":40},"start-seq":33}},"tips-view-uri":"http://localhost/tips/d"}
-POST /tips | Content-Type: application/alto-tipsparams+json~ | {"resource-id":"d","tag":"e1-40"} | 200 OK | alto-tips+json | {"tips-view-summary":{"updates-graph-summary":{"end-seq":40,"start-edge-rec":{"seq-i":40,"seq-j":41},"start-seq":33}},"tips-view-uri":"http://localhost/tips/d"}"#;
+    r#"POST /tips | Content-Type: application/alto-tipsparams+json~ | {"resource-id":"d","tag":"e1-36"}
+    | 200 OK | alto-tips+json | {"tips-view-summary":{"updates-graph-summary":{"end-seq":40,
+    "start-edge-rec":{"seq-i":36,"seq-j":40},"start-seq":33}},"tips-view-uri":"http://localhost/tips/d"}
+POST /tips | Content-Type: application/alto-tipsparams+json~ | {"resource-id":"d","tag":"e1-40"}
+    | 200 OK | alto-tips+json | {"tips-view-summary":{"updates-graph-summary":{"end-seq":40,
+    "start-edge-rec":{"seq-i":40,"seq-j":41},"start-seq":33}},"tips-view-uri":"http://localhost/tips/d"}"#;
 
 #[test]
 fn a_drill_of_forty_imports_is_accepted(rt: HostRuntime) -> Result<(), Fail> {

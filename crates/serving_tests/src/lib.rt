@@ -9,7 +9,11 @@ mod imports;
 #[cfg(test)]
 mod maps;
 #[cfg(test)]
+mod paths;
+#[cfg(test)]
 mod queries;
+#[cfg(test)]
+mod requests;
 #[cfg(test)]
 mod seats;
 #[cfg(test)]

@@ -1,3 +1,4 @@
+use crate::talks::joined;
 use alto_commands::{Form, import, init, pipe, show, trim};
 use alto_http::MemLink;
 use alto_keeper::{Keeper, MemVault, Vault};
@@ -19,8 +20,14 @@ import x i2 csv | | 11 | bad form row 0 column 0~
 import x i2 csv | pid-add,metro,ea.st,,,~ | 11 | bad form row 1 column 3~
 import x i2 json | {"edits":[["pid-add","metro","east"]]} | 0 | accepted n 2 moment 100~
 show x metro | | 0 | {"meta":{"vtag":{"resource-id":"metro","tag":"e1-2"}},"network-map":{"east":{}}}~
-pipe x | GET /maps/metro HTTP/1.1^^POST /edits/i3 HTTP/1.1^Content-Type: text/csv^Content-Length: 22^^pid-add,metro,west,,,~ | 0 | HTTP/1.1 200 OK^Content-Type: application/alto-networkmap+json^Content-Length: 80^^{"meta":{"vtag":{"resource-id":"metro","tag":"e1-2"}},"network-map":{"east":{}}}HTTP/1.1 200 OK^Content-Type: application/json^Content-Length: 20^^{"moment":100,"n":3}
-pipe x | GET /maps/metro HTTP/1.1^^ | 0 | HTTP/1.1 200 OK^Content-Type: application/alto-networkmap+json^Content-Length: 90^^{"meta":{"vtag":{"resource-id":"metro","tag":"e1-3"}},"network-map":{"east":{},"west":{}}}
+pipe x | GET /maps/metro HTTP/1.1^^POST /edits/i3 HTTP/1.1^Content-Type: text/csv^Content-Length: 22^^
+    pid-add,metro,west,,,~
+    | 0 | HTTP/1.1 200 OK^Content-Type: application/alto-networkmap+json^Content-Length: 80^^
+    {"meta":{"vtag":{"resource-id":"metro","tag":"e1-2"}},"network-map":{"east":{}}}
+    HTTP/1.1 200 OK^Content-Type: application/json^Content-Length: 20^^{"moment":100,"n":3}
+pipe x | GET /maps/metro HTTP/1.1^^
+    | 0 | HTTP/1.1 200 OK^Content-Type: application/alto-networkmap+json^Content-Length: 90^^
+    {"meta":{"vtag":{"resource-id":"metro","tag":"e1-3"}},"network-map":{"east":{},"west":{}}}
 pipe x | GET | 14 |
 trim x 2 | | 0 | trimmed to 1~
 trim x 5 | | 0 | trimmed to 1~
@@ -119,7 +126,8 @@ fn commands_share_a_vault(rt: HostRuntime) -> Result<(), Fail> {
     let alloc = rt.alloc();
     let mut vault = MemVault::new(alloc);
     damage(alloc, &mut vault, "y")?;
-    for line in COMMANDS.lines() {
+    let lines = joined(alloc, COMMANDS)?;
+    for line in lines.as_str().lines() {
         assert!(rt; is_so(alloc, &mut vault, line)?, "{line}");
     }
     Ok(())
