@@ -8,9 +8,10 @@ ghost use Rattle.edit_forms.specs.Edits.{RecordReads};
 ghost use Rattle.edit_forms.specs.Operations.{same_text};
 ghost use Rattle.edit_forms.specs.Table.{ColumnsRead};
 
+use crate::before::Before;
 use crate::fault::FormFault;
 use crate::operation::Operation;
-use crate::values::name_in;
+use crate::values::name_like;
 use alto_edits::Edit;
 use alto_names::NetKind;
 use std::alloc::{AllocError, AllocFailed, Global};
@@ -58,14 +59,20 @@ pub(crate) struct Columns<'a> {
 }
 
 impl Columns<'_> {
-    /// The edit that the columns of this row make.
-    pub(crate) fn row_edit(&self, alloc: Global, row: u64) -> Result<Edit, FormFault>
+    /// The edit that the columns of this row make. Takes no memory for the network, nor for the metric and source of a
+    /// `cost-put`, where `before` has the same.
+    pub(crate) fn row_edit(
+        &self,
+        alloc: Global,
+        row: u64,
+        before: Before<'_>,
+    ) -> Result<Edit, FormFault>
         ensures ok { IfOk result (λ edit. RecordReads row (texts_of self.now) (Ok edit)) }
         ensures err { IfErr result (λ fault. fault ≢ FormFault.Memory
             → RecordReads row (texts_of self.now) (Err fault)) }
         ensures edit { IfOk result IsEdit }
     {
-        match self.edit(alloc) {
+        match self.edit(alloc, before) {
             Ok(edit) => Ok(edit),
             Err(ColumnFault::Bad(column)) => Err(FormFault::BadColumn(row, column)),
             Err(ColumnFault::Memory) => Err(FormFault::Memory),
@@ -84,8 +91,8 @@ impl Columns<'_> {
             && self.d == b"d".as_slice()
     }
 
-    /// The edit that the columns make.
-    fn edit(&self, alloc: Global) -> Result<Edit, ColumnFault>
+    /// The edit that the columns make. Takes no memory for the network where `before` has the same.
+    fn edit(&self, alloc: Global, before: Before<'_>) -> Result<Edit, ColumnFault>
         ensures answer { IsAnswer (ColumnsRead self.now.op.now self.now.net.now
             self.now.a.now self.now.b.now self.now.c.now self.now.d.now) result }
         ensures edit { IfOk result IsEdit }
@@ -93,7 +100,7 @@ impl Columns<'_> {
         let Some(operation) = Operation::read(self.op) else {
             return Err(ColumnFault::Bad(1));
         };
-        let net = name_in::<NetKind>(alloc, 2, self.net)?;
-        self.edit_of(alloc, operation, net)
+        let net = name_like::<NetKind>(alloc, 2, self.net, before.net)?;
+        self.edit_of(alloc, operation, net, before)
     }
 }

@@ -4,6 +4,7 @@ ghost use Rattle.alto_edits.specs.Edits.{IsEdit};
 ghost use Rattle.edit_forms.specs.Csv.{CsvReads};
 ghost use Rattle.edit_forms.specs.Edits.{RecordReads, RecordsRead};
 
+use crate::before::Before;
 use crate::edits::at_least_one;
 use crate::fault::FormFault;
 use crate::records::{Records, columns_of};
@@ -12,7 +13,8 @@ use csv::ByteRecord;
 use std::alloc::Global;
 
 /// Reads a CSV body (RFC 4180): the edits of its records, past a byte order mark and a header line. The names and
-/// values of the edits are in the ranges of their columns. The time is linear in the body.
+/// values of the edits are in the ranges of their columns. The time is linear in the body. A `cost-put` takes no memory
+/// for a network, a metric and a source that are those of a `cost-put` right before it.
 ///
 /// # Errors
 ///
@@ -37,21 +39,27 @@ fn edits_of(alloc: Global, records: &mut Records<'_>) -> Result<Vec<Edit>, FormF
     let mut edits = Vec::new(alloc);
     while let Some(at_hand) = records.at_hand() {
         let row = edits.len() as u64 + 1;
-        edits.push(edit_of(alloc, row, at_hand)?)?;
+        let edit = edit_of(alloc, row, at_hand, Before::of(&edits))?;
+        edits.push(edit)?;
         records.advance()?;
     }
     Ok(edits)
 }
 
-/// The edit of the record of this number.
-fn edit_of(alloc: Global, row: u64, fields: &ByteRecord) -> Result<Edit, FormFault>
+/// The edit of the record of this number. Takes no memory for names that it has from `before`.
+fn edit_of(
+    alloc: Global,
+    row: u64,
+    fields: &ByteRecord,
+    before: Before<'_>,
+) -> Result<Edit, FormFault>
     ensures ok { IfOk result (λ edit. RecordReads row (fields_of fields.now) (Ok edit)) }
     ensures err { IfErr result (λ fault. fault ≢ FormFault.Memory
         → RecordReads row (fields_of fields.now) (Err fault)) }
     ensures edit { IfOk result IsEdit }
 {
     match columns_of(fields) {
-        Some(columns) => columns.row_edit(alloc, row),
+        Some(columns) => columns.row_edit(alloc, row, before),
         None => Err(FormFault::BadRecord(row)),
     }
 }

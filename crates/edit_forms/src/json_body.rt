@@ -9,6 +9,7 @@ ghost use Rattle.edit_forms.specs.Columns.{texts_of};
 ghost use Rattle.edit_forms.specs.Edits.{RecordReads, RecordsRead};
 ghost use Rattle.edit_forms.specs.Json.{item_record, item_records, JsonReads, listed_edits, texts_in, texts_record};
 
+use crate::before::Before;
 use crate::columns::Columns;
 use crate::edits::at_least_one;
 use crate::fault::FormFault;
@@ -19,7 +20,8 @@ use std::alloc::Global;
 /// Reads a JSON body (RFC 8259): the edits of the items of its member `edits`, each a list of 2 to 6 texts, which are
 /// the columns in order. Those left out at the end are empty. Other members are ignored. The names and values of the
 /// edits are in the ranges of their columns. The time is linear in the body, but for the order of the members of its
-/// objects.
+/// objects. A `cost-put` takes no memory for a network, a metric and a source that are those of a `cost-put` right
+/// before it.
 ///
 /// # Errors
 ///
@@ -70,20 +72,21 @@ fn edits_of(alloc: Global, items: &[Tree]) -> Result<Vec<Edit>, FormFault>
     let mut edits = Vec::new(alloc);
     for (place, item) in items.iter().enumerate() {
         let row = place as u64 + 1;
-        edits.push(edit_of(alloc, row, item)?)?;
+        let edit = edit_of(alloc, row, item, Before::of(&edits))?;
+        edits.push(edit)?;
     }
     Ok(edits)
 }
 
-/// The edit of the item of this number.
-fn edit_of(alloc: Global, row: u64, item: &Tree) -> Result<Edit, FormFault>
+/// The edit of the item of this number. Takes no memory for names that it has from `before`.
+fn edit_of(alloc: Global, row: u64, item: &Tree, before: Before<'_>) -> Result<Edit, FormFault>
     ensures ok { IfOk result (λ edit. RecordReads row (item_record (data_of item.now)) (Ok edit)) }
     ensures err { IfErr result (λ fault. fault ≢ FormFault.Memory
         → RecordReads row (item_record (data_of item.now)) (Err fault)) }
     ensures edit { IfOk result IsEdit }
 {
     match columns_of(item) {
-        Some(columns) => columns.row_edit(alloc, row),
+        Some(columns) => columns.row_edit(alloc, row, before),
         None => Err(FormFault::BadRecord(row)),
     }
 }

@@ -25,6 +25,7 @@
 
 mod amounts;
 mod anes;
+mod before;
 mod columns;
 mod csv_body;
 mod edits;

@@ -4,9 +4,12 @@ ghost use Rattle.edit_forms.specs.Answers.{IsEditOf};
 
 use crate::amounts::amount_in;
 use crate::anes::anes_in;
+use crate::before::Before;
 use crate::columns::{ColumnFault, Columns};
 use crate::operation::Operation;
-use crate::values::{bandwidth_in, ends, entity_in, kind_in, name_in, prefix_in, value_in};
+use crate::values::{
+    bandwidth_in, ends, entity_in, kind_in, name_in, name_like, prefix_in, value_in,
+};
 use alto_edits::Edit;
 use alto_names::{AneKind, MetricKind, NetName, PidKind, PropKind};
 use std::alloc::Global;
@@ -18,6 +21,7 @@ impl Columns<'_> {
         alloc: Global,
         operation: Operation,
         net: NetName,
+        before: Before<'_>,
     ) -> Result<Edit, ColumnFault>
         ensures answer { IsEditOf operation net self.now result }
         ensures edit { IfOk result IsEdit }
@@ -31,7 +35,7 @@ impl Columns<'_> {
             Operation::PrefixDel => self.prefix_del(alloc, net),
             Operation::MetricAdd => self.metric_add(alloc, net),
             Operation::MetricDrop => self.metric_drop(alloc, net),
-            Operation::CostPut => self.cost_put(alloc, net),
+            Operation::CostPut => self.cost_put(alloc, net, before),
             Operation::CostDel => self.cost_del(alloc, net),
             Operation::PropPut => self.prop_put(alloc, net),
             Operation::PropDel => self.prop_del(alloc, net),
@@ -122,13 +126,14 @@ impl Columns<'_> {
         )
     }
 
-    /// `cost-put`: a metric, two PIDs and a cost.
-    fn cost_put(&self, alloc: Global, net: NetName) -> Result<Edit, ColumnFault>
+    /// `cost-put`: a metric, two PIDs and a cost. Takes no memory for the metric and the source where `before` has the
+    /// same.
+    fn cost_put(&self, alloc: Global, net: NetName, before: Before<'_>) -> Result<Edit, ColumnFault>
         ensures answer { IsEditOf Operation.CostPut net self.now result }
         ensures edit { IfOk result IsEdit }
     {
-        let metric = name_in::<MetricKind>(alloc, 3, self.a)?;
-        let source = name_in::<PidKind>(alloc, 4, self.b)?;
+        let metric = name_like::<MetricKind>(alloc, 3, self.a, before.metric)?;
+        let source = name_like::<PidKind>(alloc, 4, self.b, before.source)?;
         let destination = name_in::<PidKind>(alloc, 5, self.c)?;
         let cost = amount_in(6, self.d)?;
         ends(

@@ -19,7 +19,23 @@ use json_tree::Name;
 use std::alloc::Global;
 use std::str;
 
-/// The name in the column of this number.
+/// The name in the column of this number. Takes no memory where it is the name before: that is cloned.
+pub(crate) fn name_like<K: Kind>(
+    alloc: Global,
+    column: u8,
+    text: &[u8],
+    before: Option<&Label<K>>,
+) -> Result<Label<K>, ColumnFault>
+    ensures answer { IsValue column (WritesName K.alphabet K.LONGEST text.now) result }
+    ensures name { IfOk result (λ name. named K.alphabet K.LONGEST name ≡ Ok name) }
+{
+    match before {
+        Some(name) if name.matches(text) => Ok(name.clone()?),
+        _ => name_in(alloc, column, text),
+    }
+}
+
+/// The name in the column of this number, read anew.
 pub(crate) fn name_in<K: Kind>(
     alloc: Global,
     column: u8,

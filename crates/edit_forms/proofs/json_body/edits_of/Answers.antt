@@ -6,20 +6,20 @@ use Rattle.alto_edits.specs.Edits.{IsEdit}
 use Rattle.edit_forms.proofs.ItemLemmas.{item_fault, no_more_items, one_item_more}
 use Rattle.edit_forms.proofs.json_body.edits_of.Goals as goal
 
-pub returns-in_err-edit_of-clause-err : goal.returns-in_err-edit_of-clause-err
-returns-in_err-edit_of-clause-err c =
+pub returns-in_err-edit-clause-err : goal.returns-in_err-edit-clause-err
+returns-in_err-edit-clause-err c =
     let p = err_from_is_err_and c.from_residual.result c.from_residual.ensures.1 in
     rw (p.1, p.2) (λ other.
-    item_fault c.loop-place.edits.items c.in_err-edit_of.field-0.0 c.args.items.now c.loop-place.place c.index-items-place.result
-    (omega arith) c.index-items-place.is (c.in_err-edit_of.ensures.err other) c.loop-place.invariant.on)
+    item_fault c.loop-place.edits.items c.in_err-edit.field-0.0 c.args.items.now c.loop-place.place c.index-items-place.result
+    (omega arith) c.index-items-place.is (c.in_err-edit.ensures.err other) c.loop-place.invariant.on)
 
 pub loop-place-preserved : goal.loop-place-preserved
 loop-place-preserved c =
-    let items : c.push.new.self.items ≡ c.loop-place.edits.items ++ c.in_ok-edit_of.field-0 ∷ [] = c.in_ok-push.ensures.items in
+    let items : c.push.new.self.items ≡ c.loop-place.edits.items ++ c.in_ok-edit.edit ∷ [] = c.in_ok-push.ensures.items in
     record {
-      on = rw items (one_item_more c.loop-place.edits.items c.in_ok-edit_of.field-0 c.args.items.now c.loop-place.place c.index-items-place.result
-          (omega arith) c.index-items-place.is c.in_ok-edit_of.ensures.ok c.loop-place.invariant.on);
-      edits = rw items (All-push IsEdit c.loop-place.edits.items c.in_ok-edit_of.field-0 c.loop-place.invariant.edits c.in_ok-edit_of.ensures.edit);
+      on = rw items (one_item_more c.loop-place.edits.items c.in_ok-edit.edit c.args.items.now c.loop-place.place c.index-items-place.result
+          (omega arith) c.index-items-place.is c.in_ok-edit.ensures.ok c.loop-place.invariant.on);
+      edits = rw items (All-push IsEdit c.loop-place.edits.items c.in_ok-edit.edit c.loop-place.invariant.edits c.in_ok-edit.ensures.edit);
     }
 
 pub returns-clause-ok : goal.returns-clause-ok
