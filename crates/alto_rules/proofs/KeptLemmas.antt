@@ -28,6 +28,7 @@ draft_more rows writes at v kept later old alone more = record {
       indexed_more rows writes at v kept.index.written later.index.written kept.index.parts later.index.parts old.sorted
       old.indexed more.written more.parts;
   run = rw (last_key-push writes (writing at v)) more.run;
+  pids = rw more.pids old.pids;
   sized =
       rw (after-push rows writes (writing at v))
       (sizes_more rows (after rows writes) at v (had_row rows kept at) kept.sizes.total later.sizes.total kept.sizes.counts later.sizes.counts

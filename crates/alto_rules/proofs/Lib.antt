@@ -7,6 +7,7 @@ pub mod PickLemmas
 pub mod TakeLemmas
 pub mod CheckLemmas
 pub mod NextRunLemmas
+pub mod PidLemmas
 pub mod KeptLemmas
 pub mod WithdrawLemmas
 pub mod VersionLemmas

@@ -1,5 +1,5 @@
 -- What a draft keeps beside its writes, so that no question to it goes over them.
-use Rattle.std.specs.Prelude.{◌≡◌, Bool, ◌||◌, List, fold, Option, Some, None, IfSome}
+use Rattle.std.specs.Prelude.{◌≡◌, Bool, true, ◌||◌, List, fold, Option, Some, None, IfSome}
 use Rattle.std.specs.BTreeSet.{contains}
 use Rattle.std.specs.Option.{unwrap_or}
 use Rattle.alto_rows.specs.declared.key.Key.{Key}
@@ -19,8 +19,12 @@ use Rattle.alto_rules.specs.Written.{Gains, told}
 abbrev pub last_key : List Write → Option Key
 last_key writes = fold (λ _ write. Some write.key) None writes
 
+-- each key that has a row among some has one among the rows
+abbrev pub HasAll : Rows → Rows → Type 0
+HasAll rows some = (at : Key) → has_row some at ≡ true → has_row rows at ≡ true
+
 -- the rows are sorted and their prefixes in one PID each, and what is kept tells of the rows after the writes; the run
--- is one of the rows from the last written key on
+-- is one of the rows from the last written key on, and the rows of PIDs are some of them all
 pub record IsDraft (rows : Rows) (writes : List Write) (kept : Kept) : Type 0 where
   pub sorted : AreSorted rows
   pub one_owner : HaveOneOwner rows
@@ -28,6 +32,7 @@ pub record IsDraft (rows : Rows) (writes : List Write) (kept : Kept) : Type 0 wh
   pub sized : AreSizes rows (after rows writes) kept.sizes.total kept.sizes.counts
   pub owned : AreOwners rows (after rows writes) kept.owners.of kept.owners.known
   pub run : IfSome (last_key writes) (λ last. IsRunOf (rows_from rows last) kept.run.now)
+  pub pids : HasAll rows kept.pids.now
 
 -- whether a key has a row, where this is kept of the writes
 abbrev pub had_row : Rows → Kept → Key → Bool
@@ -43,3 +48,4 @@ pub record HasKept (rows : Rows) (at : Key) (has : Bool) (before later : Kept) :
   pub changed : HasChanged (owner_left at (had_row rows before at) has) before.owners.of later.owners.of
   pub known : later.owners.known ≡ before.owners.known
   pub run : IsRunOf (rows_from rows at) later.run.now
+  pub pids : later.pids.now ≡ before.pids.now

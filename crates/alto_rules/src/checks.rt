@@ -12,7 +12,7 @@ ghost use Rattle.alto_rules.specs.Sizes.{is_full};
 
 use crate::counted::counted_of;
 use crate::draft::Draft;
-use crate::keys::{ane_key, cost_key, metric_key, net_key, pid_key};
+use crate::keys::{ane_key, cost_key, metric_key, net_key};
 use crate::parts::{edit_key, edit_net};
 use alto_addr::Prefix;
 use alto_edits::{Edit, Rule};
@@ -160,8 +160,7 @@ impl<'a, R: RowStore> Draft<'a, R> {
     fn lacks_pid(&self, net: &NetName, pid: &PidName) -> Result<bool, AllocError>
         ensures { IfOk result (λ is. is ≡ lacks (drafted_rows self.now) (keys.Pid net.now pid.now)) }
     {
-        let key = pid_key(net, pid)?;
-        Ok(!self.has(&key))
+        Ok(!self.has_pid(net, pid)?)
     }
 
     /// Whether the PID that an entity names isn't declared.

@@ -89,7 +89,7 @@ fn puts_many(edits: &[Edit]) -> bool {
 }
 
 /// The same draft, which knows the owners of the prefixes of the network that an edit puts a prefix in, where the batch
-/// indexes them.
+/// indexes them, and has sought the PID that a cost goes to which it puts.
 fn prepared<'a, R: RowStore>(
     draft: Draft<'a, R>,
     edit: &Edit,
@@ -99,6 +99,16 @@ fn prepared<'a, R: RowStore>(
 {
     match edit {
         Edit::PrefixPut { net, .. } if indexes => draft.knowing(net),
+        Edit::CostPut {
+            net,
+            metric,
+            source,
+            destination,
+            ..
+        } => {
+            let follows = draft.last_origin(net, metric, source).is_some();
+            draft.seeking(net, destination, follows)
+        }
         _ => Ok(draft),
     }
 }

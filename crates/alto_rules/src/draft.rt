@@ -12,9 +12,10 @@ ghost use Rattle.alto_rules.specs.Sizes.{span_of};
 
 use crate::counted::Counted;
 use crate::kept::{Kept, has_row};
-use crate::keys::prefix_key;
+use crate::keys::{pid_key, prefix_key};
 use crate::owners::{owner_before, place_of};
 use crate::parts::edit_value;
+use crate::pids::first_pid;
 use alto_addr::Prefix;
 use alto_edits::Edit;
 use alto_names::{NetName, PidName};
@@ -60,6 +61,18 @@ impl<'a, R: RowStore> Draft<'a, R> {
         ensures { result ≡ has_row (drafted_rows self.now) key.now }
     {
         has_row(self.rows, key, self.kept.index.has(key))
+    }
+
+    /// Whether a PID is declared after the writes. Two searches where it is the PID that was sought, else three.
+    pub fn has_pid(&self, net: &NetName, pid: &PidName) -> Result<bool, AllocError>
+        ensures { IfOk result (λ has. has ≡ has_row (drafted_rows self.now) (key.Pid net.now pid.now)) }
+    {
+        let key = pid_key(net, pid)?;
+        let has = match self.kept.index.has(&key) {
+            None if first_pid(self.kept.pids, net, pid).is_some() => true,
+            written => has_row(self.rows, &key, written),
+        };
+        Ok(has)
     }
 
     /// How many rows of what is counted there are after the writes. A search, or three where the writes left their
@@ -198,6 +211,16 @@ impl<'a, R: RowStore> Draft<'a, R> {
     {
         let Draft { rows, writes, kept } = self;
         let kept = kept.knowing(*writes.allocator(), rows, net)?;
+        Ok(Draft { rows, writes, kept })
+    }
+
+    /// The same draft, which has sought the PID that a cost goes to. Two comparisons where that is the PID of the cost
+    /// before it, or has the row behind this; else one search at most.
+    pub fn seeking(self, net: &NetName, pid: &PidName, follows: bool) -> Result<Self, AllocError>
+        ensures { IfOk result (λ draft. draft ≡ self.entry) }
+    {
+        let Draft { rows, writes, kept } = self;
+        let kept = kept.seeking(rows, net, pid, follows)?;
         Ok(Draft { rows, writes, kept })
     }
 }

@@ -3,13 +3,14 @@ ghost use Rattle.alto_rows.specs.declared.write.Write.{Write};
 ghost use Rattle.std.specs.Option.{unwrap_or};
 ghost use Rattle.alto_rows.specs.Rows.{Rows, AreSorted, IsRunOf, has_row, rows_from};
 ghost use Rattle.alto_rules.specs.Draft.{HaveOneOwner};
-ghost use Rattle.alto_rules.specs.Kept.{HasKept, IsDraft};
+ghost use Rattle.alto_rules.specs.Kept.{HasAll, HasKept, IsDraft};
 
 use crate::index::Index;
 use crate::owners::Owners;
+use crate::pids::pids_from;
 use crate::runs::{is_first, next_run};
 use crate::sizes::Sizes;
-use alto_names::NetName;
+use alto_names::{NetName, PidName};
 use alto_rows::{Key, RowStore, Value};
 use std::alloc::{AllocError, Global};
 
@@ -21,6 +22,8 @@ pub struct Kept<'a> {
     pub owners: Owners,
     /// Of the rows before the writes those from the last written key on that lie together.
     pub run: &'a [(Key, Value)],
+    /// Of the same rows those that lie together from that of the PID sought last on; none where it has none.
+    pub pids: &'a [(Key, Value)],
 }
 
 impl<'a> Kept<'a> {
@@ -35,6 +38,7 @@ impl<'a> Kept<'a> {
             sizes: Sizes::new(alloc, rows),
             owners: Owners::new(alloc),
             run: &[],
+            pids: &[],
         }
     }
 
@@ -58,6 +62,7 @@ impl<'a> Kept<'a> {
             sizes,
             owners,
             run,
+            pids,
         } = self;
         let (index, old) = index.with(key, has)?;
         let run = next_run(rows, last, run, key);
@@ -69,6 +74,7 @@ impl<'a> Kept<'a> {
             sizes,
             owners,
             run,
+            pids,
         })
     }
 
@@ -88,6 +94,7 @@ impl<'a> Kept<'a> {
             sizes,
             owners,
             run,
+            pids,
         } = self;
         let owners = owners.knowing(alloc, rows, net)?;
         Ok(Kept {
@@ -95,6 +102,36 @@ impl<'a> Kept<'a> {
             sizes,
             owners,
             run,
+            pids,
+        })
+    }
+
+    /// The same, with the rows from the PID's on that a cost goes to. `pids_from` says what it takes.
+    pub fn seeking<R: RowStore>(
+        self,
+        rows: &'a R,
+        net: &NetName,
+        pid: &PidName,
+        follows: bool,
+    ) -> Result<Kept<'a>, AllocError>
+        requires { HasAll (R.rows rows.now) self.pids.now }
+        ensures { IfOk result (λ kept. (writes : List Write)
+            → IsDraft (R.rows rows.now) writes self.entry → IsDraft (R.rows rows.now) writes kept) }
+    {
+        let Kept {
+            index,
+            sizes,
+            owners,
+            run,
+            pids,
+        } = self;
+        let pids = pids_from(rows, pids, net, pid, follows)?;
+        Ok(Kept {
+            index,
+            sizes,
+            owners,
+            run,
+            pids,
         })
     }
 }

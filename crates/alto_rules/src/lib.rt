@@ -10,6 +10,7 @@ mod kept;
 mod keys;
 mod owners;
 mod parts;
+mod pids;
 mod place;
 mod runs;
 mod shared;

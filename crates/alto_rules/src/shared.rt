@@ -6,6 +6,7 @@ ghost use Rattle.alto_rules.specs.Parts.{edit_key};
 use crate::draft::Draft;
 use crate::keys::{cost_key, metric_key, net_key, pid_key};
 use crate::parts::edit_key;
+use crate::pids::first_pid;
 use crate::written::stored_in;
 use alto_addr::Prefix;
 use alto_edits::Edit;
@@ -16,7 +17,8 @@ use std::alloc::AllocError;
 impl<'a, R: RowStore> Draft<'a, R> {
     /// The key that an edit is about. What it names of a network that rows declare, before the batch or written in it,
     /// it names by their copy of the name, so that many rows share one: contracts see names by value, and don't say it.
-    /// A search for each such name, but for the first names of a cost that are those of the cost written before it.
+    /// A search for each such name, but for the first names of a cost that are those of the cost written before it, and
+    /// for the PID that was sought, where it had a row before the batch.
     pub fn shared_key(&self, edit: &Edit) -> Result<Key, AllocError>
         ensures { IfOk result (λ key. key ≡ edit_key edit.now) }
     {
@@ -156,8 +158,18 @@ impl<'a, R: RowStore> Draft<'a, R> {
         }
     }
 
-    /// A PID's name as the row that declares it has it.
+    /// A PID's name as the row that declares it has it. One comparison where the PID is the one that was sought.
     fn pid_name(&self, net: &NetName, pid: &PidName) -> Result<PidName, AllocError>
+        ensures { IfOk result (λ name. name ≡ pid.now) }
+    {
+        match first_pid(self.kept.pids, net, pid) {
+            Some(name) => name.clone(),
+            None => self.searched_pid(net, pid),
+        }
+    }
+
+    /// The same, by the search.
+    fn searched_pid(&self, net: &NetName, pid: &PidName) -> Result<PidName, AllocError>
         ensures { IfOk result (λ name. name ≡ pid.now) }
     {
         match self.stored(pid_key(net, pid)?) {
@@ -195,7 +207,7 @@ impl<'a, R: RowStore> Draft<'a, R> {
 }
 
 /// Whether two names are one.
-fn are_same<K: Kind>(name: &Label<K>, other: &Label<K>) -> bool
+pub fn are_same<K: Kind>(name: &Label<K>, other: &Label<K>) -> bool
     ensures { IsTrue result → name.now ≡ other.now }
 {
     name == other
