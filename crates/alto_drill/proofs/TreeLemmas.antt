@@ -37,7 +37,8 @@ use Rattle.alto_maps.specs.Shape as maps
 use Rattle.alto_maps.specs.Shape.{Face, group_object, Name, section_object, Shape}
 use Rattle.alto_maps.proofs.ObjectLemmas.{none_in_order}
 use Rattle.net_docs.specs.NetworkMap.{dependent_tags, families, family, is_empty, pid_declared, prefix_listed, prefixes_of, version_tag}
-use Rattle.cost_docs.specs.CostMap.{cost_type, destination_in, number_at, number_data, source_in}
+use Rattle.alto_rows.specs.Costs.{number_at}
+use Rattle.cost_docs.specs.CostMap.{cost_type, destination_in, number_data, source_in}
 use Rattle.prop_docs.specs.PropertyMap.{entity_in, first_data, is_text_of, property_in, value_data, value_in}
 use Rattle.edge_patch.specs.Documents.{document, face_of, shape_of}
 use Rattle.alto_drill.proofs.DepthLemmas.{document_shallow}

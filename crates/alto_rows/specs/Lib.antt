@@ -5,6 +5,7 @@ pub mod Rows
 pub mod Changes
 pub mod Versions
 pub mod Span
+pub mod Costs
 pub mod Prefixes
 pub mod Touches
 pub mod Good

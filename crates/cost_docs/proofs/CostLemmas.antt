@@ -17,7 +17,8 @@ use Rattle.alto_rows.proofs.RowsLemmas.{ArePast, less_back, past_first, sorted_r
 use Rattle.alto_rows.proofs.TouchesLemmas.{one_name}
 use Rattle.alto_maps.specs.Shape.{Name}
 use Rattle.cost_docs.specs.declared.costs.Cost.{Cost}
-use Rattle.cost_docs.specs.CostMap.{cost_of, destinations_of, number_at, source_in}
+use Rattle.alto_rows.specs.Costs.{cost_of, number_at}
+use Rattle.cost_docs.specs.CostMap.{destinations_of, source_in}
 use Rattle.cost_docs.specs.Costs.{costs_within}
 use Rattle.cost_docs.specs.Ordinal.{cost_in}
 

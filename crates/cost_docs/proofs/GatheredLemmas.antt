@@ -21,7 +21,8 @@ use Rattle.alto_maps.proofs.ObjectLemmas.{found-named, in_order-named}
 use Rattle.alto_maps.proofs.RisingLemmas.{named-rising}
 use Rattle.alto_maps.proofs.SetLemmas.{any-set_of, one}
 use Rattle.cost_docs.specs.declared.costs.Cost.{Cost}
-use Rattle.cost_docs.specs.CostMap.{cost_face, cost_of, destinations_of, number_data, sources_of}
+use Rattle.alto_rows.specs.Costs.{cost_of}
+use Rattle.cost_docs.specs.CostMap.{cost_face, destinations_of, number_data, sources_of}
 use Rattle.cost_docs.specs.Costs.{costs_within}
 use Rattle.cost_docs.specs.Writing.{groups_of, members_from}
 use Rattle.cost_docs.proofs.CostLemmas.{all_taken, all_told, costs_from, costs_told, sources_given}

@@ -24,7 +24,8 @@ use Rattle.alto_maps.specs.declared.place.Place.TheVariants as place
 use Rattle.alto_maps.proofs.KeyLemmas.{untouched_key}
 use Rattle.net_docs.specs.Differ.{DifferBy}
 use Rattle.net_docs.proofs.ListedLemmas.{same_listed}
-use Rattle.cost_docs.specs.CostMap.{cost_place, cost_shape, cost_type, destination_in, destinations_of, number_at}
+use Rattle.alto_rows.specs.Costs.{number_at}
+use Rattle.cost_docs.specs.CostMap.{cost_place, cost_shape, cost_type, destination_in, destinations_of}
 use Rattle.cost_docs.specs.Laws.{CostMapsDifferAtPlaces, OtherKeysTouchNowhere}
 use Rattle.cost_docs.proofs.StandsLemmas.{has_any, member_is, stands_where}
 

@@ -14,7 +14,8 @@ use Rattle.alto_rows.specs.Rows.{Rows}
 use Rattle.alto_rows.specs.Span.{rows_in}
 use Rattle.alto_rows.proofs.TouchesLemmas.{one_name}
 use Rattle.alto_maps.specs.Shape.{Name, group_object, section_object, stands}
-use Rattle.cost_docs.specs.CostMap.{cost_face, cost_of, destinations_of, number_data, sources_of}
+use Rattle.alto_rows.specs.Costs.{cost_of}
+use Rattle.cost_docs.specs.CostMap.{cost_face, destinations_of, number_data, sources_of}
 use Rattle.cost_docs.specs.Costs.{group_shown, groups_shown, shown}
 use Rattle.cost_docs.proofs.CostLemmas.{AreTold, all_told}
 use Rattle.cost_docs.proofs.StandsLemmas.{has_any, stands_where}

@@ -15,7 +15,8 @@ use Rattle.alto_rows.specs.Rows.{Rows, has_row, value_of}
 use Rattle.alto_rows.proofs.TouchesLemmas.{both_ties, same_name_ties}
 use Rattle.alto_maps.specs.Shape.{Name, member_in, stands}
 use Rattle.alto_maps.proofs.SetLemmas.{any-set_of}
-use Rattle.cost_docs.specs.CostMap.{cost_face, cost_of, destinations_of, number_at, number_data, source_in}
+use Rattle.alto_rows.specs.Costs.{cost_of, number_at}
+use Rattle.cost_docs.specs.CostMap.{cost_face, destinations_of, number_data, source_in}
 
 -- ---- the groups that stand
 

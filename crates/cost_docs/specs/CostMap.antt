@@ -7,9 +7,9 @@ use Rattle.alto_rows.specs.declared.key.Key.{Key}
 use Rattle.alto_rows.specs.declared.key.Key.TheVariants as key
 use Rattle.alto_rows.specs.declared.resource.Resource.TheVariants as resource
 use Rattle.alto_rows.specs.declared.value.Value.{Value}
-use Rattle.alto_rows.specs.declared.value.Value.TheVariants as value
+use Rattle.alto_rows.specs.Costs.{cost_of}
 use Rattle.alto_rows.specs.Order.{same_name}
-use Rattle.alto_rows.specs.Rows.{Rows, value_of}
+use Rattle.alto_rows.specs.Rows.{Rows}
 use Rattle.alto_maps.specs.Shape.{Name, Shape, Face, document}
 use Rattle.alto_maps.specs.Places.{set_of}
 use Rattle.alto_maps.specs.declared.place.Place.{Place}
@@ -35,15 +35,6 @@ destination_in net metric from _ = None
 -- the destinations to which a source has a cost, in byte order
 abbrev pub destinations_of : Rows → Name → Name → Name → List Name
 destinations_of rows net metric src = filter_map (destination_in net metric src) rows
-
--- the number that a row holds
-abbrev pub number_at : Option Value → Option ℕ
-number_at (Some (value.Num n)) = Some n
-number_at _ = None
-
--- the cost of a pair
-abbrev pub cost_of : Rows → Name → Name → Name → Name → Option ℕ
-cost_of rows net metric src dst = number_at (value_of rows (key.Cost net metric src dst))
 
 -- a number as JSON
 abbrev pub number_data : Option ℕ → Data

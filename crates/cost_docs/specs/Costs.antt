@@ -12,7 +12,8 @@ use Rattle.alto_rows.specs.Rows.{Rows}
 use Rattle.alto_rows.specs.Span.{rows_in}
 use Rattle.alto_maps.specs.Shape.{Name}
 use Rattle.cost_docs.specs.declared.costs.Cost.{Cost}
-use Rattle.cost_docs.specs.CostMap.{cost_of, destinations_of, number_data, sources_of}
+use Rattle.alto_rows.specs.Costs.{cost_of}
+use Rattle.cost_docs.specs.CostMap.{destinations_of, number_data, sources_of}
 use Rattle.cost_docs.specs.Ordinal.{rank_among}
 
 -- the cost that a row gives

@@ -12,7 +12,8 @@ use Rattle.alto_rows.specs.Order.{same_name}
 use Rattle.alto_rows.specs.Rows.{Rows}
 use Rattle.alto_maps.specs.Shape.{Name, Face, document}
 use Rattle.net_docs.specs.NetworkMap.{dependent_tags}
-use Rattle.cost_docs.specs.CostMap.{cost_meta, cost_of, cost_shape, destinations_of, number_at}
+use Rattle.alto_rows.specs.Costs.{cost_of, number_at}
+use Rattle.cost_docs.specs.CostMap.{cost_meta, cost_shape, destinations_of}
 use Rattle.cost_docs.specs.CostMap.{number_data, sources_of}
 
 -- the cost of this metric that a row gives

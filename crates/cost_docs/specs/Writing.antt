@@ -8,7 +8,8 @@ use Rattle.alto_rows.specs.Order.{same_name}
 use Rattle.alto_rows.specs.Rows.{Rows}
 use Rattle.alto_maps.specs.Shape.{Name, group_object}
 use Rattle.cost_docs.specs.declared.costs.Cost.{Cost}
-use Rattle.cost_docs.specs.CostMap.{cost_face, cost_of, destinations_of, number_data, sources_of}
+use Rattle.alto_rows.specs.Costs.{cost_of}
+use Rattle.cost_docs.specs.CostMap.{cost_face, destinations_of, number_data, sources_of}
 
 -- the groups of a cost map, each with its name
 abbrev pub groups_of : Rows → Name → Name → Members

@@ -4,6 +4,7 @@ ghost use Rattle.serde_json.specs.Data as json;
 ghost use Rattle.json_tree.specs.Tree.{data_of};
 ghost use Rattle.alto_names.specs.Name.{IsPidName};
 ghost use Rattle.alto_maps.specs.Shape.{stands};
+ghost use Rattle.alto_rows.specs.Costs.{cost_of, number_at};
 ghost use Rattle.alto_rows.specs.Good.{AreGood};
 ghost use Rattle.cost_docs.specs.CostMap as spec;
 
@@ -160,7 +161,7 @@ fn cost_of<R: RowStore>(
 ) -> Result<Option<u64>, AllocError>
     requires { AreGood (R.rows rows.now) }
     ensures { IfOk result (λ cost. cost
-        ≡ spec.cost_of (R.rows rows.now) net.now metric.now source.now destination.now) }
+        ≡ cost_of (R.rows rows.now) net.now metric.now source.now destination.now) }
 {
     match read_pid(alloc, source)? {
         Some(source) => match read_pid(alloc, destination)? {
@@ -180,7 +181,7 @@ fn cost_between<R: RowStore>(
     destination: PidName,
 ) -> Result<Option<u64>, AllocError>
     ensures { IfOk result (λ cost. cost
-        ≡ spec.cost_of (R.rows rows.now) net.now metric.now source destination) }
+        ≡ cost_of (R.rows rows.now) net.now metric.now source destination) }
 {
     let key = Key::Cost(net.clone()?, metric.clone()?, source, destination);
     Ok(number_at(rows.get(&key)))
@@ -188,7 +189,7 @@ fn cost_between<R: RowStore>(
 
 /// The number that a row holds.
 fn number_at(value: Option<&Value>) -> Option<u64>
-    ensures { result ≡ spec.number_at (option_copied value.entry) }
+    ensures { result ≡ number_at (option_copied value.entry) }
 {
     match value {
         Some(Value::Num(number)) => Some(*number),

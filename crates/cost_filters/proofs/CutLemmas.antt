@@ -21,7 +21,7 @@ use Rattle.alto_rows.proofs.RunLemmas.{value_of-rows_from, value_of-rows_past}
 use Rattle.alto_rows.proofs.SpanLemmas.{in_span}
 use Rattle.alto_rows.proofs.WithinLemmas.{AreFromSpan, come_first, later_from_span, sorted_rows_in, value_of-rows_in}
 use Rattle.alto_maps.specs.Shape.{Name}
-use Rattle.cost_docs.specs.CostMap.{number_at}
+use Rattle.alto_rows.specs.Costs.{number_at}
 use Rattle.cost_filters.proofs.RunLemmas.{key_order, own_key}
 use Rattle.cost_filters.specs.Runs.{IsCostBefore, Leads, OriginData, cost_to, costs_of, ends_in, first_value, key_to}
 

@@ -17,7 +17,7 @@ use Rattle.net_docs.specs.Filter.{is_picked}
 use Rattle.net_docs.specs.NetworkMap.{pids_of}
 use Rattle.net_docs.specs.declared.ask.Pick.{Pick}
 use Rattle.net_docs.specs.declared.ask.Pick.TheVariants as pick
-use Rattle.cost_docs.specs.CostMap.{cost_of}
+use Rattle.alto_rows.specs.Costs.{cost_of}
 use Rattle.cost_filters.specs.declared.types.CostType.{CostType}
 use Rattle.cost_filters.specs.Ask.{CostAskData}
 use Rattle.cost_filters.specs.Columns.{column_cost, column_of, columns_of, dsts_tried, group_value, has_member, pair_value, reached, srcs_tried, valued}

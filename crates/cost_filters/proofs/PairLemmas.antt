@@ -17,7 +17,8 @@ use Rattle.alto_rows.proofs.TouchesLemmas.{both_ties, same_name_ties}
 use Rattle.alto_maps.specs.Shape.{Name}
 use Rattle.net_docs.specs.NetworkMap.{pids_of}
 use Rattle.net_docs.proofs.StandsLemmas.{stands_where}
-use Rattle.cost_docs.specs.CostMap.{cost_of, destinations_of, number_at}
+use Rattle.alto_rows.specs.Costs.{cost_of, number_at}
+use Rattle.cost_docs.specs.CostMap.{destinations_of}
 use Rattle.cost_filters.specs.declared.types.CostType.{CostType}
 use Rattle.cost_filters.specs.Ask.{CostAskData}
 use Rattle.cost_filters.specs.Columns.{columns_of, reached}

@@ -7,7 +7,7 @@ use Rattle.std.specs.Prelude.{Bool, true, false, nat_eq, List, [], ◌∷◌, Op
 use Rattle.std.specs.List.{list_any, range_with_len}
 use Rattle.alto_rows.specs.Rows.{Rows}
 use Rattle.alto_maps.specs.Shape.{Name}
-use Rattle.cost_docs.specs.CostMap.{cost_of}
+use Rattle.alto_rows.specs.Costs.{cost_of}
 use Rattle.cost_rule.specs.declared.constraint.Constraint.{Constraint}
 use Rattle.cost_filters.specs.declared.columns.Column.{Column}
 use Rattle.cost_filters.specs.declared.columns.Scale.TheVariants as scale

@@ -29,7 +29,7 @@ use Rattle.alto_rows.proofs.RowsLemmas.{value_of-past}
 use Rattle.alto_rows.proofs.SearchLemmas.{place_from_search}
 use Rattle.alto_rows.proofs.TouchesLemmas.{one_name, same_name_itself}
 use Rattle.alto_maps.specs.Shape.{Name}
-use Rattle.cost_docs.specs.CostMap.{number_at}
+use Rattle.alto_rows.specs.Costs.{number_at}
 use Rattle.cost_filters.specs.Runs.{AreCosts, IsCostBefore, Leads, OriginData, RunData}
 use Rattle.cost_filters.specs.Runs.{cost_to, costs_of, destination_cmp, first_value, key_to}
 

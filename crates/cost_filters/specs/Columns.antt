@@ -8,7 +8,8 @@ use Rattle.alto_maps.specs.Shape.{Name}
 use Rattle.net_docs.specs.NetworkMap.{pids_of}
 use Rattle.net_docs.specs.declared.ask.Pick.{Pick}
 use Rattle.net_docs.specs.declared.ask.Pick.TheVariants as pick
-use Rattle.cost_docs.specs.CostMap.{cost_of, destinations_of}
+use Rattle.alto_rows.specs.Costs.{cost_of}
+use Rattle.cost_docs.specs.CostMap.{destinations_of}
 use Rattle.cost_docs.specs.Ordinal.{distinct_costs, rank_among}
 use Rattle.cost_filters.specs.declared.columns.Column.{Column}
 use Rattle.cost_filters.specs.declared.columns.Scale.{Scale}

@@ -9,7 +9,8 @@ use Rattle.alto_rows.specs.Rows.{Rows}
 use Rattle.alto_maps.specs.Shape.{Name, Face, document}
 use Rattle.net_docs.specs.Filter.{is_picked}
 use Rattle.net_docs.specs.NetworkMap.{dependent_tags, pids_of}
-use Rattle.cost_docs.specs.CostMap.{cost_of, cost_shape, cost_type, number_data}
+use Rattle.alto_rows.specs.Costs.{cost_of}
+use Rattle.cost_docs.specs.CostMap.{cost_shape, cost_type, number_data}
 use Rattle.cost_docs.specs.Ordinal.{ordinal_cost_of}
 use Rattle.cost_filters.specs.declared.types.CostType.{CostType}
 use Rattle.cost_filters.specs.Ask.{CostAskData}

@@ -6,7 +6,7 @@ use Rattle.serde_json.specs.Data.{Data}
 use Rattle.alto_rows.specs.Rows.{Rows}
 use Rattle.alto_maps.specs.Shape.{Name}
 use Rattle.net_docs.specs.declared.ask.Pick.{Pick}
-use Rattle.cost_docs.specs.CostMap.{cost_of}
+use Rattle.alto_rows.specs.Costs.{cost_of}
 use Rattle.cost_rule.specs.declared.constraint.Constraint.{Constraint}
 use Rattle.cost_filters.specs.declared.columns.Column.{Column}
 use Rattle.cost_filters.specs.declared.types.CostType.{CostType}

@@ -13,7 +13,7 @@ use Rattle.alto_rows.specs.Order.{key_cmp, name_cmp}
 use Rattle.alto_rows.specs.Rows.{Rows, AreSorted}
 use Rattle.alto_rows.specs.Span.{is_in}
 use Rattle.alto_maps.specs.Shape.{Name}
-use Rattle.cost_docs.specs.CostMap.{cost_of}
+use Rattle.alto_rows.specs.Costs.{cost_of}
 
 -- what the costs from a source are looked up by
 pub record OriginData : Type 0 where

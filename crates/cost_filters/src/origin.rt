@@ -7,7 +7,7 @@ ghost use Rattle.alto_rows.specs.Rows.{AreSorted};
 ghost use Rattle.alto_rows.specs.Span.{is_in, rows_in};
 ghost use Rattle.alto_rows.specs.Within.{ComeFirst};
 ghost use Rattle.alto_maps.specs.Shape.{Name};
-ghost use Rattle.cost_docs.specs.CostMap.{number_at};
+ghost use Rattle.alto_rows.specs.Costs.{number_at};
 ghost use Rattle.cost_filters.specs.Runs.{IsCostBefore, Leads, cost_to, costs_of, ends_in, first_value, key_to};
 
 use crate::run::{Run, Step};

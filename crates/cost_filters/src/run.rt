@@ -5,7 +5,7 @@ ghost use Rattle.std.specs.List.Sorted.{IsSearchInRange};
 ghost use Rattle.std.specs.Ordering.{is_eq};
 ghost use Rattle.alto_rows.specs.Place.{place_of};
 ghost use Rattle.alto_rows.specs.Rows.{Rows};
-ghost use Rattle.cost_docs.specs.CostMap.{number_at};
+ghost use Rattle.alto_rows.specs.Costs.{number_at};
 ghost use Rattle.cost_filters.specs.Runs.{AreCosts, IsCostBefore, Leads, OriginData};
 ghost use Rattle.cost_filters.specs.Runs.{cost_to, destination_cmp, first_value, key_to};
 

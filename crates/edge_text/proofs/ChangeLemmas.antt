@@ -19,7 +19,8 @@ use Rattle.alto_maps.specs.OperationForm.{on_meta, under}
 use Rattle.alto_maps.specs.Shape.{Name, Face, group_object}
 use Rattle.alto_maps.specs.Writing.{AddsMember, AddsValue}
 use Rattle.net_docs.specs.NetworkMap.{dependent_tags}
-use Rattle.cost_docs.specs.CostMap.{cost_face, cost_of, cost_shape}
+use Rattle.alto_rows.specs.Costs.{cost_of}
+use Rattle.cost_docs.specs.CostMap.{cost_face, cost_shape}
 use Rattle.cost_docs.specs.Writing.{AddsTokens}
 use Rattle.edge_text.specs.Operations.{addition_tokens, are_both, on_change, on_cost, on_whole, removal_tokens, tokens_of}
 use Rattle.edge_text.specs.Pairs.{is_version_of}

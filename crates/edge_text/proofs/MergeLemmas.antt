@@ -21,7 +21,8 @@ use Rattle.alto_maps.specs.Touched.{Touched}
 use Rattle.alto_maps.specs.declared.place.Place.{Place}
 use Rattle.alto_maps.proofs.RisingLemmas.{named-rising}
 use Rattle.alto_maps.proofs.SetLemmas.{Rise, itself, one, rise-set_of}
-use Rattle.cost_docs.specs.CostMap.{cost_face, cost_of}
+use Rattle.alto_rows.specs.Costs.{cost_of}
+use Rattle.cost_docs.specs.CostMap.{cost_face}
 use Rattle.cost_docs.proofs.StandsLemmas.{member_is}
 use Rattle.edge_text.specs.Merge.{Begun, begin_tokens, begun_behind, change_tokens, cost_token, end_if, pair_tokens, standing, tokens_left}
 use Rattle.edge_text.specs.Pairs.{Pair, pairs_of}

@@ -22,7 +22,8 @@ use Rattle.alto_maps.specs.Touched.{Touched}
 use Rattle.alto_maps.specs.declared.place.Place.{Place}
 use Rattle.alto_maps.specs.Writing.{AddsValue}
 use Rattle.alto_maps.proofs.SetLemmas.{itself, one}
-use Rattle.cost_docs.specs.CostMap.{cost_face, cost_of, cost_shape}
+use Rattle.alto_rows.specs.Costs.{cost_of}
+use Rattle.cost_docs.specs.CostMap.{cost_face, cost_shape}
 use Rattle.cost_docs.specs.Writing.{AddsTokens}
 use Rattle.cost_docs.proofs.StandsLemmas.{member_is}
 use Rattle.edge_text.specs.Operations.{Turned, both_standing, on_change, on_cost, on_pair, on_pairs, on_whole, standing, tokens_of, turned_behind}

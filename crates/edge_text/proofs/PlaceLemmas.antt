@@ -17,7 +17,8 @@ use Rattle.alto_maps.specs.declared.place.Place.{Place}
 use Rattle.alto_maps.specs.declared.place.Place.TheVariants as place
 use Rattle.doc_pieces.proofs.NameLemmas.{set_of-rising}
 use Rattle.alto_maps.proofs.SetLemmas.{one}
-use Rattle.cost_docs.specs.CostMap.{cost_face, cost_of, cost_place, number_at}
+use Rattle.alto_rows.specs.Costs.{cost_of, number_at}
+use Rattle.cost_docs.specs.CostMap.{cost_face, cost_place}
 use Rattle.cost_docs.proofs.StandsLemmas.{member_is}
 use Rattle.edge_text.specs.Pairs.{Pair, is_version_of, pair_in, pairs_of}
 use Rattle.edge_text.proofs.GatheredLemmas.{destination_of, gathered, have_own, names_in, names_set, own, own_rise, sources_in}

@@ -7,7 +7,8 @@ use Rattle.alto_rows.specs.Rows.{Rows}
 use Rattle.alto_maps.specs.OperationForm.{under}
 use Rattle.alto_maps.specs.Shape.{Name, Face, same_name}
 use Rattle.alto_maps.proofs.SetLemmas.{one}
-use Rattle.cost_docs.specs.CostMap.{cost_face, cost_of}
+use Rattle.alto_rows.specs.Costs.{cost_of}
+use Rattle.cost_docs.specs.CostMap.{cost_face}
 use Rattle.edge_text.specs.Operations.{Turned, are_both, both_standing, cost_gone, known_of, on_change, on_cost, on_pair, on_whole, turned_behind, turned_to}
 use Rattle.edge_text.specs.Pairs.{Pair}
 use Rattle.edge_text.proofs.ChangeLemmas.{change_is}

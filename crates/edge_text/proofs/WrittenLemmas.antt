@@ -19,7 +19,8 @@ use Rattle.alto_maps.specs.Shape.{Name, Face, Shape, same_name, stands}
 use Rattle.alto_maps.specs.declared.place.Place.{Place}
 use Rattle.alto_maps.specs.Writing.{AddsMember, AddsValue}
 use Rattle.alto_maps.proofs.SetLemmas.{any-set_of, itself}
-use Rattle.cost_docs.specs.CostMap.{cost_face, cost_of, cost_shape}
+use Rattle.alto_rows.specs.Costs.{cost_of}
+use Rattle.cost_docs.specs.CostMap.{cost_face, cost_shape}
 use Rattle.cost_docs.specs.Writing.{AddsTokens}
 use Rattle.net_docs.specs.NetworkMap.{dependent_tags}
 use Rattle.edge_text.specs.Merge.{part_tokens, tokens_left}

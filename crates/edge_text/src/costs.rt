@@ -1,5 +1,6 @@
 //! The costs that a patch is made of.
 ghost use Rattle.std.specs.Prelude.{◌≡◌, IfOk, OnOk, option_copied};
+ghost use Rattle.alto_rows.specs.Costs.{number_at};
 ghost use Rattle.alto_rows.specs.Good.{AreGood};
 ghost use Rattle.alto_maps.specs.Shape.{group_object, stands};
 ghost use Rattle.alto_maps.specs.Writing.{AddsMembers, AddsValue};
@@ -14,7 +15,7 @@ use std::alloc::AllocError;
 
 /// The number that a row holds.
 pub(crate) fn number_at(value: Option<&Value>) -> Option<u64>
-    ensures { result ≡ spec.number_at (option_copied value.entry) }
+    ensures { result ≡ number_at (option_copied value.entry) }
 {
     match value {
         Some(Value::Num(number)) => Some(*number),

@@ -8,7 +8,8 @@ ghost use Rattle.alto_maps.specs.MergeForm.{group_change, merge_form, meta_chang
 ghost use Rattle.alto_maps.specs.Places.{touched_groups};
 ghost use Rattle.alto_maps.specs.Shape.{stands};
 ghost use Rattle.alto_maps.specs.Writing.{AddsValue};
-ghost use Rattle.cost_docs.specs.CostMap.{cost_face, cost_of, cost_place, cost_shape};
+ghost use Rattle.alto_rows.specs.Costs.{cost_of};
+ghost use Rattle.cost_docs.specs.CostMap.{cost_face, cost_place, cost_shape};
 ghost use Rattle.cost_docs.specs.Writing.{AddsTokens};
 ghost use Rattle.edge_text.specs.Merge as spec;
 ghost use Rattle.edge_text.specs.Merge.{begin_tokens, begun_behind, change_tokens, end_tokens, pair_tokens};

@@ -1,7 +1,7 @@
 use Rattle.std.proofs.Common.{◌≡◌, ◌∷◌, ◌++◌, ◌+◌, ◌∙◌, ap, refl, sym, drop, map}
 use Rattle.std.proofs.lemmas.List.{drop_more}
 use Rattle.std.specs.Prelude.{List}
-use Rattle.cost_docs.specs.CostMap.{cost_of}
+use Rattle.alto_rows.specs.Costs.{cost_of}
 use Rattle.cost_filters.specs.declared.types.CostType.{CostType}
 use Rattle.cost_filters.specs.Pairs.{tested_from}
 use Rattle.cost_filters.specs.Runs.{OriginData, cost_to}

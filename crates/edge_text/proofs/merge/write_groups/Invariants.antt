@@ -2,7 +2,8 @@ use Rattle.std.proofs.Common.{◌≡◌, ◌++◌, List, None, drop}
 use Rattle.json.specs.Token.{Token}
 use Rattle.alto_rows.specs.declared.key.Key.{Key}
 use Rattle.alto_maps.specs.Shape.{stands}
-use Rattle.cost_docs.specs.CostMap.{cost_face, cost_of}
+use Rattle.alto_rows.specs.Costs.{cost_of}
+use Rattle.cost_docs.specs.CostMap.{cost_face}
 use Rattle.edge_text.specs.Merge.{Begun, tokens_left}
 use Rattle.edge_text.specs.Pairs.{pairs_of}
 use Rattle.edge_text.proofs.merge.write_groups.Given as goal

@@ -2,7 +2,8 @@ use Rattle.std.proofs.Common.{◌≡◌, true, ℕ, Bool, Option, rules, sym, ap
 use Rattle.std.proofs.lemmas.Result.{on_ok_weaker}
 use Rattle.alto_rows.specs.Order.{same_name}
 use Rattle.alto_maps.specs.Shape.{stands}
-use Rattle.cost_docs.specs.CostMap.{cost_face, cost_of}
+use Rattle.alto_rows.specs.Costs.{cost_of}
+use Rattle.cost_docs.specs.CostMap.{cost_face}
 use Rattle.cost_docs.specs.Writing.{AddsTokens}
 use Rattle.edge_text.specs.Merge.{change_tokens, pair_tokens, standing, turn_tokens}
 use Rattle.edge_text.specs.Pairs.{Pair}

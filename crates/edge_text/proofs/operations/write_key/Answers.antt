@@ -6,7 +6,8 @@ use Rattle.json_patch.specs.Operations.{Operation}
 use Rattle.alto_rows.specs.Order.{same_name}
 use Rattle.alto_rows.specs.Rows.{value_of}
 use Rattle.alto_maps.specs.OperationForm.{under}
-use Rattle.cost_docs.specs.CostMap.{cost_face, cost_of, number_at}
+use Rattle.alto_rows.specs.Costs.{cost_of, number_at}
+use Rattle.cost_docs.specs.CostMap.{cost_face}
 use Rattle.cost_docs.specs.Writing.{AddsTokens}
 use Rattle.edge_text.specs.Operations.{are_both, both_standing, cost_gone, known_of, on_cost, on_pair, on_whole, tokens_of}
 use Rattle.edge_text.specs.Pairs.{pair_in}

@@ -1,7 +1,7 @@
 -- The first row's destination tells whether it is the one that is looked for.
 use Rattle.std.proofs.Common.{ap, sym, ◌∙◌, rules}
 use Rattle.std.specs.Prelude.{true, false}
-use Rattle.cost_docs.specs.CostMap.{number_at}
+use Rattle.alto_rows.specs.Costs.{number_at}
 use Rattle.cost_filters.proofs.RunLemmas.{first_told}
 use Rattle.cost_filters.proofs.run.Run.first_cost.Goals as goal
 
