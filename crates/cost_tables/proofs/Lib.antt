@@ -1,0 +1,6 @@
+pub mod SearchLemmas
+pub mod FromLemmas
+pub mod SourceLemmas
+pub mod RenewedLemmas
+pub mod TableLemmas
+pub mod TablesLemmas

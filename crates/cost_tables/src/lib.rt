@@ -1,0 +1,16 @@
+//! The costs of a version, kept by source beside its rows: a request looks up its pairs in a source's costs, which lie
+//! together, and searches no rows.
+//!
+//! ```text
+//! rows ── CostTables::of ──▶ CostTables ── after(rows, writes) ──▶ the next ones: of each metric the costs from all
+//!                                                                   sources that the writes left are shared
+//! CostTables ── costs_to(net, metric, source, destinations) ──▶ a cost for each destination, if it has one
+//! ```
+#![tactic(auto)]
+
+mod from_source;
+mod sources;
+mod table;
+mod tables;
+
+pub use tables::CostTables;

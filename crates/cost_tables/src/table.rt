@@ -1,0 +1,174 @@
+//! The costs of one metric, by source.
+ghost use Rattle.std.specs.Prelude.{◌≡◌, ◌++◌, List, IfOk, OnOk, map, option_map};
+ghost use Rattle.std.specs.Arc.{arc_value};
+ghost use Rattle.std.specs.BTreeMap.{is_at};
+ghost use Rattle.std.specs.List.Sorted.{IsStrictlySortedBy};
+ghost use Rattle.std.specs.Map.{keys_of, lookup};
+ghost use Rattle.alto_rows.specs.Order.{name_cmp};
+ghost use Rattle.alto_rows.specs.Rows.{AreSorted, Rows};
+ghost use Rattle.alto_rows.specs.Rows as spec;
+ghost use Rattle.cost_tables.specs.Renewed as made;
+ghost use Rattle.cost_tables.specs.Tables.{TellsCosts, costs_from};
+
+use crate::from_source::FromSource;
+use crate::sources::{sources_in, sources_written};
+use alto_names::{Metric, NetName, PidName};
+use alto_rows::{RowStore, Write};
+use std::alloc::{AllocError, Global};
+use std::cmp::Ordering;
+use std::marker::Model;
+use std::sync::Arc;
+
+/// The costs of one metric, by source in byte order. A contract sees the sources with their costs.
+#[derive(Drop)]
+pub(crate) struct Table {
+    sources: Vec<Arc<FromSource>>,
+}
+
+impl Model for Table {
+    ghost use Rattle.std.specs.Prelude.{map};
+    ghost use Rattle.std.specs.Arc.{arc_value};
+    ghost use Rattle.std.specs.List.Sorted.{IsStrictlySortedBy};
+    ghost use Rattle.std.specs.Map.{keys_of};
+    ghost use Rattle.alto_rows.specs.Order.{name_cmp};
+    ghost use Rattle.cost_tables.specs.Tables as tables;
+
+    ghost Value = { tables.Table };
+
+    ghost view = { λ table. map arc_value table.sources.items };
+
+    ghost invariant = { λ table. IsStrictlySortedBy name_cmp (keys_of (map arc_value table.sources.items)) };
+}
+
+impl Table {
+    /// The costs of a metric that rows give. Two walks over the metric's rows, and a search for each source.
+    pub(crate) fn of<R: RowStore>(
+        alloc: Global,
+        rows: &R,
+        net: &NetName,
+        metric: &Metric,
+    ) -> Result<Table, AllocError>
+        requires { AreSorted (R.rows rows.now) }
+        ensures { IfOk result (TellsCosts (R.rows rows.now) net.now metric.now) }
+    {
+        let sources = sources_in(alloc, rows, net, metric)?;
+        let none = Table {
+            sources: Vec::new(alloc),
+        };
+        none.renewed(alloc, rows, net, metric, &sources)
+    }
+
+    /// The costs after writes that led to these rows, where there was this table before. A look at each write, one walk
+    /// over the sources, and a search and a walk for each source of which a cost was written. All others are shared.
+    pub(crate) fn after<R: RowStore>(
+        table: &Arc<Table>,
+        alloc: Global,
+        rows: &R,
+        net: &NetName,
+        metric: &Metric,
+        writes: &[Write],
+    ) -> Result<Arc<Table>, AllocError>
+        requires { AreSorted (R.rows rows.now) }
+        ensures { IfOk result (λ after. (before : Rows) → AreSorted before
+            → R.rows rows.now ≡ spec.after before writes.now
+            → TellsCosts before net.now metric.now (arc_value table.now)
+            → TellsCosts (R.rows rows.now) net.now metric.now (arc_value after)) }
+    {
+        let sources = sources_written(alloc, net, metric, writes)?;
+        if sources.is_empty() {
+            return Arc::try_clone(table);
+        }
+        Ok(Arc::new(alloc, table.renewed(alloc, rows, net, metric, &sources)?)?)
+    }
+
+    /// The costs from a source, if it has any. One binary search.
+    pub(crate) fn from(&self, source: &PidName) -> Option<&FromSource>
+        ensures { option_map (λ from. from.now.1) result ≡ lookup (is_at (name_cmp source.now)) self.now }
+    {
+        let place = self
+            .sources
+            .binary_search_by(|from| from.source().cmp(source))
+            .ok()?;
+        let from = self.sources.get(place)?;
+        Some(from)
+    }
+
+    /// The table with the costs from sources, which stand in byte order, made anew from rows.
+    fn renewed<R: RowStore>(
+        &self,
+        alloc: Global,
+        rows: &R,
+        net: &NetName,
+        metric: &Metric,
+        sources: &[PidName],
+    ) -> Result<Table, AllocError>
+        requires sorted { AreSorted (R.rows rows.now) }
+        requires rise { IsStrictlySortedBy name_cmp sources.now }
+        ensures in_order { IsStrictlySortedBy name_cmp (keys_of self.now) }
+        ensures gives { IfOk result (λ table. table
+            ≡ made.renewed (costs_from (R.rows rows.now) net.now metric.now) sources.now self.now) }
+    {
+        let mut renewed = Vec::with_capacity(alloc, self.sources.len())?;
+        let mut left = self.sources.as_slice();
+        for source in sources {
+            left = share_before(source, left, &mut renewed)?;
+            put_standing(alloc, rows, net, metric, source, &mut renewed)?;
+        }
+        share(left, &mut renewed)?;
+        Ok(Table { sources: renewed })
+    }
+}
+
+/// Shares the sources that stand before a name, and gives those behind it.
+fn share_before<'a>(
+    name: &PidName,
+    sources: &'a [Arc<FromSource>],
+    shared: &mut Vec<Arc<FromSource>>,
+) -> Result<&'a [Arc<FromSource>], AllocError>
+    ensures shared { OnOk result (map arc_value shared.new.items
+        ≡ map arc_value shared.old.items ++ made.before name.now (map arc_value sources.now)) }
+    ensures left { IfOk result (λ left. map arc_value left.now
+        ≡ made.behind name.now (map arc_value sources.now)) }
+{
+    let mut left = sources;
+    while let Some((from, rest)) = left.split_first() {
+        match from.source().cmp(name) {
+            Ordering::Less => shared.push(Arc::try_clone(from)?)?,
+            Ordering::Equal => return Ok(rest),
+            Ordering::Greater => return Ok(left),
+        }
+        left = rest;
+    }
+    Ok(left)
+}
+
+/// Puts the costs from a source that rows give, where there are any.
+fn put_standing<R: RowStore>(
+    alloc: Global,
+    rows: &R,
+    net: &NetName,
+    metric: &Metric,
+    source: &PidName,
+    sources: &mut Vec<Arc<FromSource>>,
+) -> Result<(), AllocError>
+    requires { AreSorted (R.rows rows.now) }
+    ensures { OnOk result (map arc_value sources.new.items ≡ map arc_value sources.old.items
+        ++ made.standing source.now (costs_from (R.rows rows.now) net.now metric.now source.now)) }
+{
+    let from = FromSource::of(alloc, rows, net, metric, source)?;
+    if !from.is_empty() {
+        sources.push(Arc::new(alloc, from)?)?;
+    }
+    Ok(())
+}
+
+/// Shares sources.
+fn share(sources: &[Arc<FromSource>], shared: &mut Vec<Arc<FromSource>>) -> Result<(), AllocError>
+    ensures { OnOk result (map arc_value shared.new.items
+        ≡ map arc_value shared.old.items ++ map arc_value sources.now) }
+{
+    for from in sources {
+        shared.push(Arc::try_clone(from)?)?;
+    }
+    Ok(())
+}
