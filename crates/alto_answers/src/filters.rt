@@ -68,7 +68,7 @@ pub(crate) fn costs<R: RowStore>(
         → Queried Query.CostMap (seen_in front.now client.now.peer) net.now (data_of value.now) (Err fault)) }
 {
     let ask = read_cost_ask(alloc, &*front.rows, net, value)?;
-    let map = filter_cost_text(alloc, &*front.rows, net, &ask)?;
+    let map = filter_cost_text(alloc, &*front.rows, front.costs(), net, &ask)?;
     Ok(ok_reply(alloc, COST_MAP, map)?)
 }
 
@@ -110,7 +110,15 @@ fn endpoint_reply<R: RowStore>(
         (endpoint_costs front.now.rows net.now ask.now client.now.peer)) }
 {
     let table = table_of(front, net);
-    let costs = endpoint_cost_text(alloc, &*front.rows, net, table, ask, client.peer)?;
+    let costs = endpoint_cost_text(
+        alloc,
+        &*front.rows,
+        front.costs(),
+        net,
+        table,
+        ask,
+        client.peer,
+    )?;
     ok_reply(alloc, ENDPOINT_COST, costs)
 }
 

@@ -11,15 +11,17 @@ ghost use Rattle.alto_versions.specs.Front.{StandsFor};
 use crate::followed::Followed;
 use crate::front::Front;
 use crate::graphs::graphs_after;
+use crate::resources::resources_of;
 use crate::tables::tables_of;
 use crate::texts::texts_of;
 use alto_rows::{Resource, RowStore, Write};
+use cost_tables::CostTables;
 use std::alloc::{AllocError, Global};
 use std::marker::Model;
 use std::sync::Arc;
 
-/// A version in the making: all of it but the range tables and the texts, which cost much and are asked for at the end
-/// alone. So many batches in a row are gone through as fast as their rows. A contract sees the number, the rows and the
+/// A version in the making: all of it but the range tables, the costs by source and the texts, which cost much and are
+/// asked for at the end alone. So many batches in a row are gone through as fast as their rows. A contract sees the number, the rows and the
 /// graphs.
 #[derive(Drop)]
 pub struct Course<R: RowStore> {
@@ -85,8 +87,8 @@ impl<R: RowStore> Course<R> {
         })
     }
 
-    /// The version that it has come to: each declared network gets its range table, and each declared resource the text
-    /// of its document.
+    /// The version that it has come to: each declared network gets its range table, each declared metric its costs by
+    /// source, and each declared resource the text of its document.
     pub fn into_front(self, alloc: Global) -> Result<Front<R>, AllocError>
         requires good { AreGood self.rows }
         ensures { IfOk result (λ front. (book : Book) → Follows self book → StandsFor front book) }
@@ -94,11 +96,14 @@ impl<R: RowStore> Course<R> {
         let Course { n, rows, graphs } = self;
         let tables = tables_of(alloc, &*rows)?;
         let texts = texts_of(alloc, &*rows)?;
+        let resources = resources_of(alloc, &*rows)?;
+        let costs = CostTables::of(alloc, &*rows, &resources)?;
         Ok(Front {
             n,
             rows,
             graphs,
             tables,
+            costs,
             texts,
         })
     }

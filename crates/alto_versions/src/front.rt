@@ -1,6 +1,7 @@
 ghost use Rattle.std.specs.Prelude.{◌≡◌, ◌<◌, ◌^◌, IfOk, option_map, vec_items};
 ghost use Rattle.alto_rows.specs.Good.{AreGood};
 ghost use Rattle.alto_rows.specs.Rows.{after};
+ghost use Rattle.cost_tables.specs.Tables.{AreCostsOf};
 ghost use Rattle.alto_book.specs.Book.{Book};
 ghost use Rattle.alto_book.specs.Legal.{IsLegal};
 ghost use Rattle.alto_book.specs.Acceptance.{with_batch};
@@ -9,10 +10,12 @@ ghost use Rattle.alto_versions.specs.Texts.{declared_text};
 
 use crate::followed::Followed;
 use crate::graphs::{graphs_after, is_same};
+use crate::resources::resources_of;
 use crate::tables::{table_of, tables_after};
 use crate::texts::{text_of, texts_after};
 use alto_names::NetName;
 use alto_rows::{Batch, Resource, RowStore};
+use cost_tables::CostTables;
 use doc_pieces::Pieces;
 use pid_prefix::RangeTable;
 use std::alloc::{AllocError, Global};
@@ -21,9 +24,9 @@ use std::sync::Arc;
 use tips_graph::Graph;
 
 /// A version: the rows after some number of batches, the updates graphs that they have led to, the range tables of
-/// their prefixes, and the texts of their documents. It never changes, and readers share it. A contract sees the
-/// number, the rows, the graphs, and the prefixes of the tables. The rows are good, and the texts are those of the
-/// rows.
+/// their prefixes, their costs by source, and the texts of their documents. It never changes, and readers share it. A
+/// contract sees the number, the rows, the graphs, and the prefixes of the tables. The rows are good, and the costs and
+/// the texts are those of the rows.
 #[derive(Drop)]
 pub struct Front<R: RowStore> {
     /// How many batches led to it.
@@ -34,12 +37,15 @@ pub struct Front<R: RowStore> {
     pub graphs: Vec<(Resource, Arc<Followed<R>>)>,
     /// The range table of each declared network, in the order of their names.
     pub tables: Vec<(NetName, Arc<RangeTable>)>,
+    /// The costs of each declared metric, by source.
+    pub(crate) costs: CostTables,
     /// The text of the document of each declared resource, in pieces, in the order of resources.
     pub(crate) texts: Vec<(Resource, Arc<Pieces>)>,
 }
 
 impl<R: RowStore> Model for Front<R> {
     ghost use Rattle.std.specs.Arc.{arc_value};
+    ghost use Rattle.cost_tables.specs.Tables.{AreCostsOf};
     ghost use Rattle.alto_versions.specs.Front.{Version};
     ghost use Rattle.alto_versions.specs.Graphs.{entries};
     ghost use Rattle.alto_versions.specs.Texts.{AreTextsOf};
@@ -53,7 +59,8 @@ impl<R: RowStore> Model for Front<R> {
       tables = entries front.tables.items;
     } };
 
-    ghost invariant = { λ front. AreTextsOf (R.rows (arc_value front.rows)) (entries front.texts.items) };
+    ghost invariant = { λ front. AreTextsOf (R.rows (arc_value front.rows)) (entries front.texts.items)
+        × AreCostsOf (R.rows (arc_value front.rows)) front.costs };
 }
 
 impl<R: RowStore> Front<R> {
@@ -84,6 +91,13 @@ impl<R: RowStore> Front<R> {
         Some(table)
     }
 
+    /// The costs of the rows, by source.
+    pub fn costs(&self) -> &CostTables
+        ensures { AreCostsOf self.now.rows result.now }
+    {
+        &self.costs
+    }
+
     /// The text of a resource's document, where the resource is declared. Costs one pass over the declared resources,
     /// and the copying of the text.
     pub fn text(&self, alloc: Global, of: &Resource) -> Result<Option<Vec<u8>>, AllocError>
@@ -98,9 +112,10 @@ impl<R: RowStore> Front<R> {
     /// The version after one batch more. It shares what the batch left.
     ///
     /// Costs what the store's `with` costs, two searches for each declared resource, a look at each write for each of
-    /// those that the batch gave a number, twice for each declared resource and once for each network, a range table
-    /// for each network whose prefixes it wrote, and for each map that it changed a walk over the groups and the
-    /// writing of those that it touched.
+    /// those that the batch gave a number, twice for each declared resource and once for each network and for each
+    /// metric, a range table for each network whose prefixes it wrote, for each map that it changed a walk over the
+    /// groups and the writing of those that it touched, and for each metric of which it wrote a cost a walk over the
+    /// sources, and one over the rows of each source of which it wrote one.
     pub fn with(&self, alloc: Global, batch: &Batch) -> Result<Front<R>, AllocError>
         requires room { self.now.n < 2 ^ 63 }
         requires good { AreGood (after self.now.rows batch.now.writes) }
@@ -111,11 +126,14 @@ impl<R: RowStore> Front<R> {
         let texts = texts_after(alloc, &self.texts, &*rows, &batch.writes)?;
         let graphs = graphs_after(alloc, &self.graphs, &texts, &rows, &batch.writes)?;
         let tables = tables_after(alloc, &self.tables, &*rows, &batch.writes)?;
+        let resources = resources_of(alloc, &*rows)?;
+        let costs = self.costs.after(alloc, &*rows, &resources, &batch.writes)?;
         Ok(Front {
             n: self.n + 1,
             rows,
             graphs,
             tables,
+            costs,
             texts,
         })
     }

@@ -5,7 +5,5 @@ pub mod ValuedLemmas
 pub mod HoldsLemmas
 pub mod PairLemmas
 pub mod FilterLemmas
-pub mod RunLemmas
-pub mod CutLemmas
 pub mod PairsLemmas
 pub mod TextLemmas

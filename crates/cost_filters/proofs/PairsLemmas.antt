@@ -8,6 +8,7 @@ use Rattle.std.specs.List.{list_any, range_with_len}
 use Rattle.alto_rows.specs.Rows.{Rows}
 use Rattle.alto_maps.specs.Shape.{Name}
 use Rattle.alto_rows.specs.Costs.{cost_of}
+use Rattle.cost_tables.specs.Tables.{AreCostsOf, Tables, cost_in}
 use Rattle.cost_rule.specs.declared.constraint.Constraint.{Constraint}
 use Rattle.cost_filters.specs.declared.columns.Column.{Column}
 use Rattle.cost_filters.specs.declared.columns.Scale.TheVariants as scale
@@ -16,7 +17,6 @@ use Rattle.cost_filters.specs.Columns.{column_cost, columns_of, scaled}
 use Rattle.cost_filters.specs.Filter.{costs_of, tested_costs}
 use Rattle.cost_filters.specs.Holds.{all_hold, one_holds}
 use Rattle.cost_filters.specs.Pairs.{PairsData, Table, cost_shown, costs_at, costs_shown, if_there, is_shown, one_is_empty, pair_costs, told_from, tested_from}
-use Rattle.cost_filters.specs.Runs.{cost_to}
 use Rattle.cost_filters.proofs.FilterLemmas.{columns_tell}
 
 -- ---- one column
@@ -33,10 +33,17 @@ all_numerical [] = refl
 all_numerical (None ∷ costs) = ap (λ (more : List (Option ℕ)). None ∷ more) (all_numerical costs)
 all_numerical (Some cost ∷ costs) = ap (λ (more : List (Option ℕ)). Some cost ∷ more) (all_numerical costs)
 
+-- tables tell the costs to destinations as the rows do
+pub costs_told : (rows : Rows) (tables : Tables) (net metric src : Name) (dsts : List Name) → AreCostsOf rows tables
+    → map (cost_in tables net metric src) dsts ≡ map (λ dst. cost_of rows net metric src dst) dsts
+costs_told rows tables net metric src dsts costs = λ i. map (λ dst. costs net metric src dst i) dsts
+
 -- the costs of a column, as they are told
-pub column_told : (rows : Rows) (net src : Name) (column : Column) (dsts : List Name)
-    → map (option_map (scaled column.scale)) (map (cost_to rows (record { net = net; metric = column.metric; src = src })) dsts) ≡ map (λ dst. column_cost rows net src dst column) dsts
-column_told rows net src column dsts = map-map (option_map (scaled column.scale)) (cost_to rows (record { net = net; metric = column.metric; src = src })) dsts
+pub column_told : (rows : Rows) (tables : Tables) (net src : Name) (column : Column) (dsts : List Name) → AreCostsOf rows tables
+    → map (option_map (scaled column.scale)) (map (cost_in tables net column.metric src) dsts) ≡ map (λ dst. column_cost rows net src dst column) dsts
+column_told rows tables net src column dsts costs =
+    ap (map (option_map (scaled column.scale))) (costs_told rows tables net column.metric src dsts costs)
+    ∙ map-map (option_map (scaled column.scale)) (λ dst. cost_of rows net column.metric src dst) dsts
 
 -- ---- all columns at a place
 

@@ -5,7 +5,6 @@ pub mod Ask
 pub mod Holds
 pub mod Filter
 pub mod Columns
-pub mod Runs
 pub mod Pairs
 pub mod Names
 pub mod Text

@@ -7,6 +7,7 @@ ghost use Rattle.serde_json.specs.Written.{compact_text};
 ghost use Rattle.json_tree.specs.Document.{members_of};
 ghost use Rattle.json_tree.specs.Tree.{members_in_order};
 ghost use Rattle.alto_rows.specs.Good.{AreGood};
+ghost use Rattle.cost_tables.specs.Tables.{AreCostsOf};
 ghost use Rattle.alto_maps.specs.Shape.{section_object};
 ghost use Rattle.alto_maps.specs.Writing.{AddsMember, AddsMembers, AddsValue};
 ghost use Rattle.net_docs.specs.NetworkMap.{dependent_tags};
@@ -25,6 +26,7 @@ use crate::types::CostType;
 use crate::writing::write_types;
 use alto_names::{NetName, PidName};
 use alto_rows::RowStore;
+use cost_tables::CostTables;
 use json::Writer;
 use net_docs::write_dependent_tags;
 use std::alloc::{AllocError, Global};
@@ -33,21 +35,22 @@ use std::alloc::{AllocError, Global};
 /// with no space, written without a tree.
 ///
 /// For each ordinal type one walk over its metric's rows and one sort of their costs. For each source that is asked for
-/// and each type that is asked for or tested one search for each run of the store in which rows of the asked
-/// destinations lie, and for each destination one comparison of two names where the rows of the sources before lay
-/// alike, else one binary search in a run by such comparisons. Where all destinations are asked for, also one walk over
-/// the source's rows.
+/// and each type that is asked for or tested one binary search for the source, and for each destination one comparison
+/// of two names where the costs from the source before lay alike, else one binary search. Where all destinations are
+/// asked for, also one walk over the source's rows.
 pub fn filter_cost_text<R: RowStore>(
     alloc: Global,
     rows: &R,
+    tables: &CostTables,
     net: &NetName,
     ask: &CostAsk,
 ) -> Result<Vec<u8>, AllocError>
-    requires { AreGood (R.rows rows.now) }
+    requires good { AreGood (R.rows rows.now) }
+    requires costs { AreCostsOf (R.rows rows.now) tables.now }
     ensures { IfOk result (λ bytes. bytes.items ≡ compact_text (filtered_costs (R.rows rows.now) net.now ask.now)) }
 {
     let mut out = Writer::new(Vec::new(alloc));
-    write_map(alloc, rows, net, ask, &mut out)?;
+    write_map(alloc, rows, tables, net, ask, &mut out)?;
     Ok(out.into_inner())
 }
 
@@ -55,15 +58,17 @@ pub fn filter_cost_text<R: RowStore>(
 fn write_map<R: RowStore>(
     alloc: Global,
     rows: &R,
+    tables: &CostTables,
     net: &NetName,
     ask: &CostAsk,
     out: &mut Writer,
 ) -> Result<(), AllocError>
-    requires { AreGood (R.rows rows.now) }
+    requires good { AreGood (R.rows rows.now) }
+    requires costs { AreCostsOf (R.rows rows.now) tables.now }
     ensures { OnOk result (AddsValue (filtered_costs (R.rows rows.now) net.now ask.now) out.old out.new) }
 {
     out.begin_object()?;
-    write_section(alloc, rows, net, ask, out)?;
+    write_section(alloc, rows, tables, net, ask, out)?;
     write_meta(alloc, rows, net, ask, out)?;
     out.end_object()
 }
@@ -109,15 +114,25 @@ fn write_meta_members<R: RowStore>(
 fn write_section<R: RowStore>(
     alloc: Global,
     rows: &R,
+    tables: &CostTables,
     net: &NetName,
     ask: &CostAsk,
     out: &mut Writer,
 ) -> Result<(), AllocError>
-    requires { AreGood (R.rows rows.now) }
+    requires good { AreGood (R.rows rows.now) }
+    requires costs { AreCostsOf (R.rows rows.now) tables.now }
     ensures { OnOk result (AddsMember (codes "cost-map")
         (section_object (filtered_face (R.rows rows.now) net.now ask.now)) out.old out.new) }
 {
-    let pairs = Pairs::new(alloc, rows, net, &ask.types, &ask.tested, &ask.alternatives)?;
+    let pairs = Pairs::new(
+        alloc,
+        rows,
+        tables,
+        net,
+        &ask.types,
+        &ask.tested,
+        &ask.alternatives,
+    )?;
     let srcs = srcs_of(alloc, rows, net, &ask.srcs)?;
     let given = names_given(alloc, &ask.dsts)?;
     out.key("cost-map")?;
@@ -139,9 +154,9 @@ fn write_groups<R: RowStore>(
     ensures { OnOk result (AddsMembers (members_in_order
         (valued (group_made multi (option_map (λ names. names.items) given.now) pairs.now) srcs.now)) out.old out.new) }
 {
-    let mut gaps = Vec::new(alloc);
+    let mut places = Vec::new(alloc);
     for src in srcs {
-        write_group(alloc, pairs, multi, src, given, &mut gaps, out)?;
+        write_group(alloc, pairs, multi, src, given, &mut places, out)?;
     }
     Ok(())
 }
@@ -153,7 +168,7 @@ fn write_group<R: RowStore>(
     multi: bool,
     src: &PidName,
     given: &Option<Vec<PidName>>,
-    gaps: &mut Vec<usize>,
+    places: &mut Vec<usize>,
     out: &mut Writer,
 ) -> Result<(), AllocError>
     requires { AreSetIfAny (option_map (λ names. names.items) given.now) }
@@ -161,10 +176,10 @@ fn write_group<R: RowStore>(
         (group_made multi (option_map (λ names. names.items) given.now) pairs.now src.now) out.old out.new) }
 {
     match given {
-        Some(dsts) => write_among(alloc, pairs, multi, src, dsts, gaps, out),
+        Some(dsts) => write_among(alloc, pairs, multi, src, dsts, places, out),
         None => {
             let dsts = pairs.reached(alloc, src)?;
-            write_among(alloc, pairs, multi, src, &dsts, gaps, out)
+            write_among(alloc, pairs, multi, src, &dsts, places, out)
         }
     }
 }
@@ -176,14 +191,14 @@ fn write_among<R: RowStore>(
     multi: bool,
     src: &PidName,
     dsts: &[PidName],
-    gaps: &mut Vec<usize>,
+    places: &mut Vec<usize>,
     out: &mut Writer,
 ) -> Result<(), AllocError>
     requires { IsStrictlySortedBy (slice_cmp nat_cmp) dsts.now }
     ensures { OnOk result (AddsIfAny src.now
         (object_if_any (valued (pair_shown multi pairs.now src.now) dsts.now)) out.old out.new) }
 {
-    let found = pairs.from(alloc, src, dsts, gaps)?;
+    let found = pairs.from(alloc, src, dsts, places)?;
     write_found(multi, src, dsts, &found, out)
 }
 

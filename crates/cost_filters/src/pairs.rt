@@ -1,10 +1,9 @@
 //! The pairs that cost types and constraints make, source by source.
 ghost use Rattle.std.specs.Prelude.{◌≡◌, false, IfOk, map};
-ghost use Rattle.std.specs.Cmp.Lexicographic.{slice_cmp};
 ghost use Rattle.std.specs.List.{range_with_len};
-ghost use Rattle.std.specs.List.Sorted.{IsStrictlySortedBy};
-ghost use Rattle.std.specs.Ordering.{nat_cmp};
 ghost use Rattle.alto_rows.specs.Good.{AreGood};
+ghost use Rattle.alto_rows.specs.Rows.{Rows};
+ghost use Rattle.cost_tables.specs.Tables.{AreCostsOf};
 ghost use Rattle.cost_filters.specs.Columns.{columns_of, reached};
 ghost use Rattle.cost_filters.specs.Holds.{one_holds};
 ghost use Rattle.cost_filters.specs.Names.{IsSetOf};
@@ -17,14 +16,16 @@ use crate::types::CostType;
 use alto_names::{NetName, PidName};
 use alto_rows::RowStore;
 use cost_rule::Constraint;
+use cost_tables::CostTables;
 use std::alloc::{AllocError, Global};
 use std::marker::Model;
 
 /// Cost types and constraints that are asked of the pairs of a network, made ready for many pairs. A contract sees them
-/// with the rows and the network.
+/// with the rows and the network. The tables tell the costs of the rows.
 #[derive(Drop)]
 pub struct Pairs<'a, R: RowStore> {
     rows: &'a R,
+    tables: &'a CostTables,
     net: &'a NetName,
     types: &'a [CostType],
     tested: &'a [CostType],
@@ -35,6 +36,7 @@ pub struct Pairs<'a, R: RowStore> {
 impl<'a, R: RowStore> Model for Pairs<'a, R> {
     ghost use Rattle.std.specs.Prelude.{◌≡◌, map};
     ghost use Rattle.alto_rows.specs.Good.{AreGood};
+    ghost use Rattle.cost_tables.specs.Tables.{AreCostsOf};
     ghost use Rattle.cost_filters.specs.Columns.{columns_of};
     ghost use Rattle.cost_filters.specs.Pairs.{PairsData};
 
@@ -49,20 +51,24 @@ impl<'a, R: RowStore> Model for Pairs<'a, R> {
     } };
 
     ghost invariant = { λ pairs. AreGood (R.rows pairs.rows.now)
+        × AreCostsOf (R.rows pairs.rows.now) pairs.tables.now
         × (pairs.columns.items ≡ columns_of (R.rows pairs.rows.now) pairs.net.now pairs.types.now) };
 }
 
 impl<'a, R: RowStore> Pairs<'a, R> {
-    /// Those of an ask at rows. For each ordinal type one walk over its metric's rows and one sort of their costs.
+    /// Those of an ask at rows, whose costs the tables tell. For each ordinal type one walk over its metric's rows and
+    /// one sort of their costs.
     pub fn new(
         alloc: Global,
         rows: &'a R,
+        tables: &'a CostTables,
         net: &'a NetName,
         types: &'a [CostType],
         tested: &'a [CostType],
         alternatives: &'a [Vec<Constraint>],
     ) -> Result<Pairs<'a, R>, AllocError>
-        requires { AreGood (R.rows rows.now) }
+        requires good { AreGood (R.rows rows.now) }
+        requires costs { AreCostsOf (R.rows rows.now) tables.now }
         ensures { IfOk result (λ pairs. pairs ≡ record {
           rows = R.rows rows.now;
           net = net.now;
@@ -73,6 +79,7 @@ impl<'a, R: RowStore> Pairs<'a, R> {
     {
         Ok(Pairs {
             rows,
+            tables,
             net,
             types,
             tested,
@@ -90,33 +97,39 @@ impl<'a, R: RowStore> Pairs<'a, R> {
         reached_once(alloc, self.rows, self.net, &self.columns, src)
     }
 
-    /// The pairs of a source with destinations in byte order.
+    /// The pairs of a source with destinations.
     ///
-    /// For each type that is asked for or tested one search for each run of the store in which rows of these
-    /// destinations lie, and for each destination one comparison of two names where the gaps are right, else a binary
-    /// search in the run by such comparisons. The gaps guess how many rows lie between those of two destinations that
-    /// follow one another, and become what was found: so they are handed on from source to source. Where no constraint
-    /// tests a pair, no tested type costs anything.
+    /// For each type that is asked for or tested one binary search for the source, and for each destination one
+    /// comparison of two names where its place is right, else one binary search. The places guess where the
+    /// destinations stand among those of the source, and become what was found: so they are handed on from source to
+    /// source. Where no constraint tests a pair, no tested type costs anything.
     pub fn from(
         &self,
         alloc: Global,
         src: &PidName,
         dsts: &[PidName],
-        gaps: &mut Vec<usize>,
+        places: &mut Vec<usize>,
     ) -> Result<Found, AllocError>
-        requires { IsStrictlySortedBy (slice_cmp nat_cmp) dsts.now }
         ensures { IfOk result (λ found. found ≡ map (pair_costs self.now src.now) dsts.now) }
     {
-        let told = told_from(alloc, self.rows, self.net, &self.columns, src, dsts, gaps)?;
+        let told = told_from(
+            alloc,
+            self.tables,
+            self.net,
+            &self.columns,
+            src,
+            dsts,
+            places,
+        )?;
         let tested = tested_if_any(
             alloc,
-            self.rows,
+            self.tables,
             self.net,
             self.tested,
             self.alternatives,
             src,
             dsts,
-            gaps,
+            places,
         )?;
         let shown = all_shown(alloc, self.alternatives, &told, &tested, dsts.len())?;
         Ok(Found::new(told, shown))
@@ -124,25 +137,24 @@ impl<'a, R: RowStore> Pairs<'a, R> {
 }
 
 /// The costs that constraints test; none of them where one of the lists has no constraint.
-fn tested_if_any<R: RowStore>(
+fn tested_if_any(
     alloc: Global,
-    rows: &R,
+    tables: &CostTables,
     net: &NetName,
     types: &[CostType],
     alternatives: &[Vec<Constraint>],
     src: &PidName,
     dsts: &[PidName],
-    gaps: &mut Vec<usize>,
+    places: &mut Vec<usize>,
 ) -> Result<Table, AllocError>
-    requires good { AreGood (R.rows rows.now) }
-    requires rise { IsStrictlySortedBy (slice_cmp nat_cmp) dsts.now }
-    ensures { IfOk result (λ table. one_is_empty (map (λ constraints. constraints.items) alternatives.now) ≡ false
-        → table ≡ tested_from (R.rows rows.now) net.now types.now src.now dsts.now) }
+    ensures { IfOk result (λ table. (rows : Rows) → AreCostsOf rows tables.now
+        → one_is_empty (map (λ constraints. constraints.items) alternatives.now) ≡ false
+        → table ≡ tested_from rows net.now types.now src.now dsts.now) }
 {
     if one_is_empty(alternatives) {
         return Ok(Table::new(alloc));
     }
-    tested_from(alloc, rows, net, types, src, dsts, gaps)
+    tested_from(alloc, tables, net, types, src, dsts, places)
 }
 
 /// Which of so many places of the costs make a pair.

@@ -1,10 +1,8 @@
 //! Costs by column, each column with one for each destination.
 ghost use Rattle.std.specs.Prelude.{◌≡◌, ◌++◌, [], ◌∷◌, IfOk, OnOk, map, option_map, slice_get};
-ghost use Rattle.std.specs.Cmp.Lexicographic.{slice_cmp};
-ghost use Rattle.std.specs.List.Sorted.{IsStrictlySortedBy};
-ghost use Rattle.std.specs.Ordering.{nat_cmp};
-ghost use Rattle.alto_rows.specs.Rows.{AreSorted};
+ghost use Rattle.alto_rows.specs.Rows.{Rows};
 ghost use Rattle.alto_maps.specs.Writing.{AddsValue};
+ghost use Rattle.cost_tables.specs.Tables.{AreCostsOf};
 ghost use Rattle.cost_docs.specs.CostMap.{number_data};
 ghost use Rattle.cost_filters.specs.Columns.{column_cost, scaled};
 ghost use Rattle.cost_filters.specs.Filter.{costs_data};
@@ -12,11 +10,10 @@ ghost use Rattle.cost_filters.specs.Pairs.{costs_at, has_cost, if_there, told_fr
 ghost use Rattle.cost_filters.specs.Text.{AddsItems};
 
 use crate::columns::{Column, Scale, scaled};
-use crate::origin::Origin;
 use crate::types::CostType;
 use crate::writing::write_number;
 use alto_names::{NetName, PidName};
-use alto_rows::RowStore;
+use cost_tables::CostTables;
 use json::Writer;
 use std::alloc::{AllocError, Global};
 use std::marker::Model;
@@ -141,43 +138,40 @@ fn write_each(columns: &[Vec<Option<u64>>], at: usize, out: &mut Writer) -> Resu
     Ok(())
 }
 
-/// The costs of columns from a source to destinations in byte order.
-pub(crate) fn told_from<R: RowStore>(
+/// The costs of columns from a source to destinations.
+pub(crate) fn told_from(
     alloc: Global,
-    rows: &R,
+    tables: &CostTables,
     net: &NetName,
     columns: &[Column],
     src: &PidName,
     dsts: &[PidName],
-    gaps: &mut Vec<usize>,
+    places: &mut Vec<usize>,
 ) -> Result<Table, AllocError>
-    requires sorted { AreSorted (R.rows rows.now) }
-    requires rise { IsStrictlySortedBy (slice_cmp nat_cmp) dsts.now }
-    ensures { IfOk result (λ table. table ≡ told_from (R.rows rows.now) net.now columns.now src.now dsts.now) }
+    ensures { IfOk result (λ table. (rows : Rows) → AreCostsOf rows tables.now
+        → table ≡ told_from rows net.now columns.now src.now dsts.now) }
 {
     let mut table = Table::new(alloc);
     for column in columns {
-        table.push(column_from(alloc, rows, net, column, src, dsts, gaps)?)?;
+        table.push(column_from(alloc, tables, net, column, src, dsts, places)?)?;
     }
     Ok(table)
 }
 
 /// Those of one column.
-fn column_from<R: RowStore>(
+fn column_from(
     alloc: Global,
-    rows: &R,
+    tables: &CostTables,
     net: &NetName,
     column: &Column,
     src: &PidName,
     dsts: &[PidName],
-    gaps: &mut Vec<usize>,
+    places: &mut Vec<usize>,
 ) -> Result<Vec<Option<u64>>, AllocError>
-    requires sorted { AreSorted (R.rows rows.now) }
-    requires rise { IsStrictlySortedBy (slice_cmp nat_cmp) dsts.now }
-    ensures { IfOk result (λ costs. costs.items
-        ≡ map (λ dst. column_cost (R.rows rows.now) net.now src.now dst column.now) dsts.now) }
+    ensures { IfOk result (λ costs. (rows : Rows) → AreCostsOf rows tables.now
+        → costs.items ≡ map (λ dst. column_cost rows net.now src.now dst column.now) dsts.now) }
 {
-    let costs = Origin::new(net, &column.metric, src).costs_to(alloc, rows, dsts, gaps)?;
+    let costs = tables.costs_to(alloc, net, &column.metric, src, dsts, places)?;
     scaled_all(alloc, &column.scale, costs)
 }
 
@@ -210,22 +204,21 @@ fn each_scaled(
 }
 
 /// The costs by the metrics of types that constraints test.
-pub(crate) fn tested_from<R: RowStore>(
+pub(crate) fn tested_from(
     alloc: Global,
-    rows: &R,
+    tables: &CostTables,
     net: &NetName,
     types: &[CostType],
     src: &PidName,
     dsts: &[PidName],
-    gaps: &mut Vec<usize>,
+    places: &mut Vec<usize>,
 ) -> Result<Table, AllocError>
-    requires sorted { AreSorted (R.rows rows.now) }
-    requires rise { IsStrictlySortedBy (slice_cmp nat_cmp) dsts.now }
-    ensures { IfOk result (λ table. table ≡ tested_from (R.rows rows.now) net.now types.now src.now dsts.now) }
+    ensures { IfOk result (λ table. (rows : Rows) → AreCostsOf rows tables.now
+        → table ≡ tested_from rows net.now types.now src.now dsts.now) }
 {
     let mut table = Table::new(alloc);
     for one in types {
-        table.push(Origin::new(net, &one.metric, src).costs_to(alloc, rows, dsts, gaps)?)?;
+        table.push(tables.costs_to(alloc, net, &one.metric, src, dsts, places)?)?;
     }
     Ok(table)
 }

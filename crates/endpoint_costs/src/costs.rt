@@ -1,13 +1,11 @@
 ghost use Rattle.std.specs.Prelude.{◌≡◌, [], ◌∷◌, codes, IfOk, OnOk, map};
-ghost use Rattle.std.specs.Cmp.Lexicographic.{slice_cmp};
 ghost use Rattle.std.specs.List.{AllByRecursion};
-ghost use Rattle.std.specs.List.Sorted.{IsStrictlySortedBy};
-ghost use Rattle.std.specs.Ordering.{nat_cmp};
 ghost use Rattle.serde_json.specs.Written.{compact_text};
 ghost use Rattle.json_tree.specs.Document.{object_of};
 ghost use Rattle.alto_rows.specs.Good.{AreGood};
 ghost use Rattle.alto_rows.specs.Prefixes.{prefixes_in};
 ghost use Rattle.alto_maps.specs.Writing.{AddsMember, AddsValue};
+ghost use Rattle.cost_tables.specs.Tables.{AreCostsOf};
 ghost use Rattle.cost_filters.specs.Pairs.{pair_costs};
 ghost use Rattle.endpoint_costs.specs.Costs.{endpoint_costs, endpoint_meta, pairs_object};
 ghost use Rattle.endpoint_costs.specs.Spots.{IsWritten};
@@ -20,6 +18,7 @@ use alto_addr::Addr;
 use alto_names::{NetName, PidName};
 use alto_rows::RowStore;
 use cost_filters::{Found, Pairs, write_types};
+use cost_tables::CostTables;
 use json::Writer;
 use pid_prefix::RangeTable;
 use std::alloc::{AllocError, Global};
@@ -30,18 +29,19 @@ use std::alloc::{AllocError, Global};
 ///
 /// For each ordinal type one walk over its metric. For each address one look-up in the table, and one sort of the
 /// addresses. Then the distinct PIDs make their pairs once: for each of the sources and each type that is asked for or
-/// tested one search for each run of the store in which rows of the destinations lie, and for each destination one
-/// comparison of two names where the rows of the sources before lay alike, else one binary search in a run by such
-/// comparisons.
+/// tested one binary search for the source, and for each destination one comparison of two names where the costs from
+/// the source before lay alike, else one binary search.
 pub fn endpoint_cost_text<R: RowStore>(
     alloc: Global,
     rows: &R,
+    tables: &CostTables,
     net: &NetName,
     table: &RangeTable,
     ask: &EndAsk,
     peer: Option<Addr>,
 ) -> Result<Vec<u8>, AllocError>
     requires good { AreGood (R.rows rows.now) }
+    requires costs { AreCostsOf (R.rows rows.now) tables.now }
     requires table { table.now ≡ prefixes_in (R.rows rows.now) net.now }
     ensures { IfOk result (λ bytes. bytes.items
         ≡ compact_text (endpoint_costs (R.rows rows.now) net.now ask.now peer)) }
@@ -49,7 +49,7 @@ pub fn endpoint_cost_text<R: RowStore>(
     let srcs = endpoints_at(alloc, table, &ask.srcs, peer)?;
     let dsts = endpoints_at(alloc, table, &ask.dsts, peer)?;
     let mut out = Writer::new(Vec::new(alloc));
-    write_map(alloc, rows, net, ask, srcs, dsts, &mut out)?;
+    write_map(alloc, rows, tables, net, ask, srcs, dsts, &mut out)?;
     Ok(out.into_inner())
 }
 
@@ -57,6 +57,7 @@ pub fn endpoint_cost_text<R: RowStore>(
 fn write_map<R: RowStore>(
     alloc: Global,
     rows: &R,
+    tables: &CostTables,
     net: &NetName,
     ask: &EndAsk,
     srcs: Vec<Endpoint>,
@@ -64,6 +65,7 @@ fn write_map<R: RowStore>(
     out: &mut Writer,
 ) -> Result<(), AllocError>
     requires good { AreGood (R.rows rows.now) }
+    requires costs { AreCostsOf (R.rows rows.now) tables.now }
     requires srcs { AllByRecursion (IsWritten (prefixes_in (R.rows rows.now) net.now)) srcs.items }
     requires dsts { AllByRecursion (IsWritten (prefixes_in (R.rows rows.now) net.now)) dsts.items }
     ensures { OnOk result (AddsValue (object_of ((codes "meta", endpoint_meta ask.now)
@@ -71,7 +73,7 @@ fn write_map<R: RowStore>(
         out.old out.new) }
 {
     out.begin_object()?;
-    write_section(alloc, rows, net, ask, srcs, dsts, out)?;
+    write_section(alloc, rows, tables, net, ask, srcs, dsts, out)?;
     write_meta(ask, out)?;
     out.end_object()
 }
@@ -90,6 +92,7 @@ fn write_meta(ask: &EndAsk, out: &mut Writer) -> Result<(), AllocError>
 fn write_section<R: RowStore>(
     alloc: Global,
     rows: &R,
+    tables: &CostTables,
     net: &NetName,
     ask: &EndAsk,
     srcs: Vec<Endpoint>,
@@ -97,12 +100,21 @@ fn write_section<R: RowStore>(
     out: &mut Writer,
 ) -> Result<(), AllocError>
     requires good { AreGood (R.rows rows.now) }
+    requires costs { AreCostsOf (R.rows rows.now) tables.now }
     requires srcs { AllByRecursion (IsWritten (prefixes_in (R.rows rows.now) net.now)) srcs.items }
     requires dsts { AllByRecursion (IsWritten (prefixes_in (R.rows rows.now) net.now)) dsts.items }
     ensures { OnOk result (AddsMember (codes "endpoint-cost-map")
         (pairs_object (R.rows rows.now) net.now ask.now srcs.items dsts.items) out.old out.new) }
 {
-    let pairs = Pairs::new(alloc, rows, net, &ask.types, &ask.tested, &ask.alternatives)?;
+    let pairs = Pairs::new(
+        alloc,
+        rows,
+        tables,
+        net,
+        &ask.types,
+        &ask.tested,
+        &ask.alternatives,
+    )?;
     let from = pids_of(alloc, &srcs)?;
     let to = pids_of(alloc, &dsts)?;
     let found = found_between(alloc, &pairs, &from, &to)?;
@@ -121,14 +133,13 @@ fn found_between<R: RowStore>(
     from: &[PidName],
     to: &[PidName],
 ) -> Result<Vec<Found>, AllocError>
-    requires { IsStrictlySortedBy (slice_cmp nat_cmp) to.now }
     ensures { IfOk result (λ found. found.items
         ≡ map (λ src. map (pair_costs pairs.now src) to.now) from.now) }
 {
     let mut found = Vec::with_capacity(alloc, from.len())?;
-    let mut gaps = Vec::new(alloc);
+    let mut places = Vec::new(alloc);
     for src in from {
-        found.push(pairs.from(alloc, src, to, &mut gaps)?)?;
+        found.push(pairs.from(alloc, src, to, &mut places)?)?;
     }
     Ok(found)
 }

@@ -44,7 +44,7 @@ returns g c =
     let whole : object (members_in_order (valued (group_made c.ask.inside.multi (option_map (λ names. names.items) c.in_ok-given.given) c.in_ok-pairs.pairs) c.deref-4.result.now))
     ≡ section_object (filtered_face rows net ask) =
     (λ i. object (members_in_order (valued (group_made (multi i) (given i) (made i)) (c.deref-4.ensures.value i))))
-    ∙ section_is rows net ask srcs c.requires set in
+    ∙ section_is rows net ask srcs c.requires.good set in
     on_ok_weaker c.end_object.result
     (λ closed. named_value (codes "cost-map") (section_object (filtered_face rows net ask)) c.args.out.now c.key.new.self c.end_object.new.self (search rules) (search rules)
     (subst (λ (d : Data). AddsValue d c.key.new.self c.end_object.new.self) whole

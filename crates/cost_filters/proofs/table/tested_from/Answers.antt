@@ -4,13 +4,11 @@ use Rattle.std.specs.Prelude.{List}
 use Rattle.alto_rows.specs.Costs.{cost_of}
 use Rattle.cost_filters.specs.declared.types.CostType.{CostType}
 use Rattle.cost_filters.specs.Pairs.{tested_from}
-use Rattle.cost_filters.specs.Runs.{OriginData, cost_to}
-use Rattle.cost_filters.proofs.PairsLemmas.{column_more}
+use Rattle.cost_filters.proofs.PairsLemmas.{column_more, costs_told}
 use Rattle.cost_filters.proofs.table.tested_from.Goals as goal
 
 pub loop-one-preserved : goal.loop-one-preserved
-loop-one-preserved g c =
-    let rows = g.R.RowStore.rows c.args.rows.now in
+loop-one-preserved c rows costs =
     let net = c.args.net.now in
     let src = c.args.src.now in
     let dsts = c.args.dsts.now in
@@ -19,7 +17,7 @@ loop-one-preserved g c =
     let left = drop (l.one-index + 1) c.args.types.now in
     let step : drop l.one-index c.args.types.now ≡ type ∷ left =
     rw (drop_more c.args.types.now l.one-index type c.loop-one-test.true, ← c.one-item.is) refl in
-    let costs = c.in_ok-costs_to.ensures ∙ ap (λ (origin : OriginData). map (cost_to rows origin) dsts) c.new.ensures in
     rw c.in_ok-push.ensures
     (column_more l.table (tested_from rows net left src dsts) _ c.in_ok-costs_to.field-0.items (map (λ dst. cost_of rows net type.metric src dst) dsts)
-    costs (ap (λ (types : List CostType). l.table ++ tested_from rows net types src dsts) (sym step) ∙ l.invariant))
+    (c.in_ok-costs_to.ensures ∙ costs_told rows c.args.tables.now net type.metric src dsts costs)
+    (ap (λ (types : List CostType). l.table ++ tested_from rows net types src dsts) (sym step) ∙ l.invariant rows costs))

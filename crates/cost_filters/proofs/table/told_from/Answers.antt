@@ -8,8 +8,7 @@ use Rattle.cost_filters.proofs.PairsLemmas.{column_more}
 use Rattle.cost_filters.proofs.table.told_from.Goals as goal
 
 pub loop-column-preserved : goal.loop-column-preserved
-loop-column-preserved g c =
-    let rows = g.R.RowStore.rows c.args.rows.now in
+loop-column-preserved c rows costs =
     let net = c.args.net.now in
     let src = c.args.src.now in
     let dsts = c.args.dsts.now in
@@ -20,4 +19,4 @@ loop-column-preserved g c =
     rw (drop_more c.args.columns.now l.column-index column c.loop-column-test.true, ← c.column-item.is) refl in
     rw c.in_ok-push.ensures
     (column_more l.table (told_from rows net left src dsts) _ c.in_ok-column_from.field-0.items (map (λ dst. column_cost rows net src dst column) dsts)
-    c.in_ok-column_from.ensures (ap (λ (columns : List Column). l.table ++ told_from rows net columns src dsts) (sym step) ∙ l.invariant))
+    (c.in_ok-column_from.ensures rows costs) (ap (λ (columns : List Column). l.table ++ told_from rows net columns src dsts) (sym step) ∙ l.invariant rows costs))

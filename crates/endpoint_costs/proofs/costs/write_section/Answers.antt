@@ -19,9 +19,6 @@ use Rattle.endpoint_costs.specs.Spots.{entries_of, group_at, spot_in}
 use Rattle.endpoint_costs.proofs.SpotLemmas.{found_of, groups_are, pids}
 use Rattle.endpoint_costs.proofs.costs.write_section.Goals as goal
 
-pub found_between-requires : goal.found_between-requires
-found_between-requires g c = subst Rise (sym (c.deref-7.ensures.value ∙ c.in_ok-to.ensures)) (rise-set_of (pids c.deref-5.result.now))
-
 pub spots_of-requires : goal.spots_of-requires
 spots_of-requires g c = subst Rise (sym (c.deref-8.ensures.value ∙ c.in_ok-from.ensures)) (rise-set_of (pids c.deref-4.result.now))
 

@@ -15,7 +15,7 @@ returns-in_ok-text-in-Some g c =
     let found : Some text ≡ text_in (entries c.self.inside.texts.items) of =
     (rw c.in-Some.is at c.text_of.ensures) ∙ ap (λ texts. text_in (entries texts) of) c.deref.ensures.value in
     ap Some (c.in_ok-text-in-Some.ensures ∙ ap text_of c.deref-in-Some.ensures)
-    ∙ (text_found rows of (entries c.self.inside.texts.items) text c.self.invariant found
+    ∙ (text_found rows of (entries c.self.inside.texts.items) text c.self.invariant.0 found
     ∙ ap (λ (version : Version). declared_text version.rows of) c.self.view_is)
 
 pub returns-in-None : goal.returns-in-None
@@ -24,5 +24,5 @@ returns-in-None g c =
     let of = c.args.of.now in
     let found : None ≡ text_in (entries c.self.inside.texts.items) of =
     (rw c.in-None.is at c.text_of.ensures) ∙ ap (λ texts. text_in (entries texts) of) c.deref.ensures.value in
-    none_found rows of (entries c.self.inside.texts.items) c.self.invariant found
+    none_found rows of (entries c.self.inside.texts.items) c.self.invariant.0 found
     ∙ ap (λ (version : Version). declared_text version.rows of) c.self.view_is

@@ -26,7 +26,7 @@ graphs_after-requires-clause-texts g c = λ of.
     same ∙ (ap g.R.RowStore.rows c.in_ok-rows.ensures.ok ∙ (c.in_ok-with.ensures
     ∙ rw (c.deref.ensures, c.deref-2.ensures.value, c.deref-5.ensures.value) refl)) in
     let had = c.in_ok-texts.ensures before led
-    (subst (AreTextsOf before) (ap entries (sym c.deref-3.ensures.value)) c.self.invariant) in
+    (subst (AreTextsOf before) (ap entries (sym c.deref-3.ensures.value)) c.self.invariant.0) in
     let told = text_told _ of (entries c.in_ok-texts.texts.items) _ had refl in
     subst (λ texts. IfSome (text_in (entries texts) of) (λ text. text ≡ map_pieces (g.R.RowStore.rows (arc_value c.in_ok-rows.rows)) of))
     (sym c.deref-7.ensures.value)
