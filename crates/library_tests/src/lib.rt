@@ -12,9 +12,13 @@ mod bodies;
 #[cfg(test)]
 mod constraints;
 #[cfg(test)]
+mod costs;
+#[cfg(test)]
 mod crashes;
 #[cfg(test)]
 mod desks;
+#[cfg(test)]
+mod draws;
 #[cfg(test)]
 mod forms;
 #[cfg(test)]

@@ -1,26 +1,12 @@
 //! The range tables of a version beside the scan that says what they give, on prefixes that a generator draws.
 use crate::desks::{MemDesk, imported, new_desk};
+use crate::draws::Draws;
 use alto_addr::{Addr, print_addr};
 use alto_names::NetName;
 use alto_rows::prefixes_of;
 use pid_prefix::find_by_scan;
 use std::alloc::{AllocError, Global};
 use std::test::Fail;
-
-/// A generator's state.
-#[derive(Drop)]
-struct Draws(u64);
-
-impl Draws {
-    /// The next number, of 31 bits.
-    fn draw(&mut self) -> u32 {
-        self.0 = self
-            .0
-            .wrapping_mul(6_364_136_223_846_793_005)
-            .wrapping_add(1_442_695_040_888_963_407);
-        u32::try_from(self.0 >> 33).unwrap_or(0)
-    }
-}
 
 /// A prefix of up to 32 bits, of either family.
 #[derive(Clone, Copy)]
