@@ -13,7 +13,8 @@ use Rattle.alto_rows.specs.Rows.{Rows, has_row}
 use Rattle.alto_rows.proofs.EntityLemmas.{one_entity}
 use Rattle.alto_rows.proofs.PieceLemmas.{named_is}
 use Rattle.alto_maps.specs.Shape.{Name}
-use Rattle.prop_docs.specs.Ask.{GoesOn, ListRead, ReadsEntities, ReadsList, ReadsPropAsk, ReadsText, asked, entities_field, names_asked}
+use Rattle.prop_docs.specs.Ask.{GoesOn, ListRead, ReadsEntities, ReadsList, ReadsPropAsk, ReadsText, asked}
+use Rattle.prop_docs.specs.Ask.{entities_field, names_asked}
 use Rattle.alto_answers.specs.Queries.{declared_net, net_named}
 
 -- two values of which this holds are one
@@ -53,7 +54,8 @@ prop_ask_once net ask is_net = λ one other h k.
     (list_once net (required_items entities_field ask) is_net h.entities k.entities h.listed k.listed)
     ∙ sym k.whole
 
-declared_is_name : (rows : Rows) (text : List ℕ) (read : Result (List ℕ) NameFault) → named is_net_byte 24 text ≡ read → IfSome (declared_net rows read) IsNetName
+declared_is_name : (rows : Rows) (text : List ℕ) (read : Result (List ℕ) NameFault) → named is_net_byte 24 text ≡ read
+    → IfSome (declared_net rows read) IsNetName
 declared_is_name rows text (Err fault) e = tt
 declared_is_name rows text (Ok net) e = by (has_row rows (key.Net net))
   where

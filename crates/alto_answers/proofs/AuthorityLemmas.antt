@@ -1,5 +1,6 @@
 -- An authority is text: all its bytes are of US-ASCII.
-use Rattle.std.proofs.Common.{◌≡◌, ℕ, ◌<◌, Bool, true, false, ◌&&◌, ◌==◌, cond, List, [], ◌∷◌, take, drop, refl, subst, arith}
+use Rattle.std.proofs.Common.{◌≡◌, ℕ, ◌<◌, Bool, true, false, ◌&&◌, ◌==◌, cond, List, [], ◌∷◌, take, drop, refl, subst}
+use Rattle.std.proofs.Common.{arith}
 use Rattle.std.proofs.lemmas.Bool.Decides.{nat_tests}
 use Rattle.std.specs.Char.{is_ascii_digit}
 use Rattle.std.specs.List.{list_all, position_or_len}
@@ -7,7 +8,8 @@ use Rattle.std.specs.Str.{IsUtf8, IsAscii}
 use Rattle.std.proofs.lemmas.List.{take-append-drop}
 use Rattle.std.proofs.lemmas.Str.{IsUtf8-from_ascii, IsAscii-append}
 use Rattle.std.proofs.lemmas.Str.Ascii.{IsAscii-nil, IsAscii-cons}
-use Rattle.alto_answers.specs.Authority.{is_host_byte, is_address_byte, is_name, is_address, is_port, follows_host, follows_address, is_named, is_bracketed, is_authority}
+use Rattle.alto_answers.specs.Authority.{is_host_byte, is_address_byte, is_name, is_address, is_port, follows_host}
+use Rattle.alto_answers.specs.Authority.{follows_address, is_named, is_bracketed, is_authority}
 
 left : (a b : Bool) → (a && b) ≡ true → a ≡ true
 left true b h = refl
@@ -31,11 +33,13 @@ all_ascii : (alphabet : ℕ → Bool) (text : List ℕ) → ((byte : ℕ) → al
     → list_all alphabet text ≡ true → IsAscii text
 all_ascii alphabet [] ascii h = IsAscii-nil
 all_ascii alphabet (byte ∷ rest) ascii h =
-    IsAscii-cons byte rest (ascii byte (left (alphabet byte) _ h)) (all_ascii alphabet rest ascii (right (alphabet byte) _ h))
+    IsAscii-cons byte rest (ascii byte (left (alphabet byte) _ h))
+    (all_ascii alphabet rest ascii (right (alphabet byte) _ h))
 
 -- a text is ASCII whose two parts are
 whole_ascii : (place : ℕ) (text : List ℕ) → IsAscii (take place text) → IsAscii (drop place text) → IsAscii text
-whole_ascii place text front back = subst IsAscii (take-append-drop place text) (IsAscii-append (take place text) (drop place text) front back)
+whole_ascii place text front back =
+    subst IsAscii (take-append-drop place text) (IsAscii-append (take place text) (drop place text) front back)
 
 name_ascii : (text : List ℕ) → is_name text ≡ true → IsAscii text
 unfolding is_name
@@ -65,12 +69,14 @@ after_address_ascii (mark ∷ rest) h =
 
 named_ascii : (text : List ℕ) → is_named text ≡ true → IsAscii text
 unfolding is_named
-named_ascii text h = whole_ascii (position_or_len (λ b. b == 58) text) text (name_ascii _ (left _ _ h)) (after_host_ascii _ (right _ _ h))
+named_ascii text h = whole_ascii (position_or_len (λ b. b == 58) text) text (name_ascii _ (left _ _ h))
+    (after_host_ascii _ (right _ _ h))
 
 bracketed_ascii : (text : List ℕ) → is_bracketed text ≡ true → IsAscii text
 unfolding is_bracketed
 bracketed_ascii text h =
-    whole_ascii (position_or_len (λ b. b == 93) text) text (address_ascii _ (left _ _ h)) (after_address_ascii _ (right _ _ h))
+    whole_ascii (position_or_len (λ b. b == 93) text) text (address_ascii _ (left _ _ h))
+    (after_address_ascii _ (right _ _ h))
 
 chosen_ascii : (opens : Bool) (first : ℕ) (rest : List ℕ) → (first == 91) ≡ opens
     → cond opens (is_bracketed rest) (is_named (first ∷ rest)) ≡ true → IsAscii (first ∷ rest)

@@ -1,5 +1,6 @@
 -- The edges of a resource, by the updates graph of a version.
-use Rattle.std.proofs.Common.{◌≡◌, ℕ, ◌≤◌, ◌==◌, true, false, Bool, List, Option, Some, None, if◌then◌else◌, refl, ap, ap₂, sym, subst, ◌∙◌, arith}
+use Rattle.std.proofs.Common.{◌≡◌, ℕ, ◌≤◌, ◌==◌, true, false, Bool, List, Option, Some, None, if◌then◌else◌, refl, ap}
+use Rattle.std.proofs.Common.{ap₂, sym, subst, ◌∙◌, arith}
 use Rattle.std.proofs.lemmas.Bool.Decides.{nat_tests}
 use Rattle.serde_json.specs.Written.{compact_text}
 use Rattle.alto_http.specs.declared.request.Verb.{Verb}
@@ -27,7 +28,8 @@ use Rattle.tips_graph.specs.Graph.{GraphData, span_of, status_of}
 use Rattle.tips_graph.specs.Graph.{rows_at as graph_rows}
 use Rattle.alto_answers.specs.declared.outcome.Answer.{Answer}
 use Rattle.alto_answers.specs.Answers.{BringsEdits}
-use Rattle.alto_answers.specs.Edges.{content_reply, content_type, edge_by, edge_number, edge_reply, edges_answer, named_edge, numbered_edge, patch_type}
+use Rattle.alto_answers.specs.Edges.{content_reply, content_type, edge_by, edge_number, edge_reply, edges_answer}
+use Rattle.alto_answers.specs.Edges.{named_edge, numbered_edge, patch_type}
 use Rattle.alto_replies.specs.Replies.{document_reply, ok_reply}
 use Rattle.alto_answers.specs.Types.{media_type_of}
 
@@ -36,7 +38,8 @@ pub graph_in_version : (version : Version) (book : Book) (of : Resource) → Sta
     → graph_in version.graphs of ≡ (if is_declared (rows_of book) of then Some (updates_graph book of) else None)
 graph_in_version version book of stands = ap (λ graphs. graph_in graphs of) stands.graphs ∙ graph_found book of
 
-chosen : (b : Bool) (graph there : GraphData) → Some graph ≡ (if b then Some there else None) → (b ≡ true) × (graph ≡ there)
+chosen : (b : Bool) (graph there : GraphData) → Some graph ≡ (if b then Some there else None)
+    → (b ≡ true) × (graph ≡ there)
 chosen true graph there h = (refl, cc)
 chosen false graph there h = cc
 
@@ -45,10 +48,12 @@ left_out true there h = cc
 left_out false there h = refl
 
 -- a graph that a version has is that of a declared resource
-pub graph_some : (version : Version) (book : Book) (of : Resource) (graph : GraphData) → IsLegal book → StandsFor version book
+pub graph_some : (version : Version) (book : Book) (of : Resource) (graph : GraphData) → IsLegal book
+    → StandsFor version book
     → Some graph ≡ graph_in version.graphs of → TellsNumbers graph book of
 graph_some version book of graph legal stands found =
-    let is = chosen (is_declared (rows_of book) of) graph (updates_graph book of) (found ∙ graph_in_version version book of stands) in
+    let is = chosen (is_declared (rows_of book) of) graph (updates_graph book of)
+    (found ∙ graph_in_version version book of stands) in
     let P : GraphData → Type 0 = λ g. TellsNumbers g book of in
     subst P (sym is.1) (graph_tells book of legal is.0)
 
@@ -59,12 +64,16 @@ graph_none version book of stands found =
     left_out (is_declared (rows_of book) of) (updates_graph book of) (found ∙ graph_in_version version book of stands)
 
 -- the status that a graph tells is that of the book
-pub by_status : (graph : GraphData) (book : Book) (of : Resource) (form : PatchForm) (i j : ℕ) (status : EdgeStatus) (answer : Answer) → TellsNumbers graph book of
-    → status ≡ status_of graph i j → answer ≡ edge_by status book of form i j → answer ≡ edge_by (status_at book of i j) book of form i j
-by_status graph book of form i j status answer is told same = same ∙ ap (λ s. edge_by s book of form i j) (told ∙ is.status i j)
+pub by_status : (graph : GraphData) (book : Book) (of : Resource) (form : PatchForm) (i j : ℕ) (status : EdgeStatus)
+    (answer : Answer) → TellsNumbers graph book of
+    → status ≡ status_of graph i j → answer ≡ edge_by status book of form i j
+    → answer ≡ edge_by (status_at book of i j) book of form i j
+by_status graph book of form i j status answer is told same =
+    same ∙ ap (λ s. edge_by s book of form i j) (told ∙ is.status i j)
 
 -- an edge that can be had by one book of the graph can be had by another
-pub here_too : (graph : GraphData) (book other : Book) (of : Resource) (i j : ℕ) → TellsNumbers graph book of → TellsNumbers graph other of
+pub here_too : (graph : GraphData) (book other : Book) (of : Resource) (i j : ℕ) → TellsNumbers graph book of
+    → TellsNumbers graph other of
     → status_at book of i j ≡ Here → status_at other of i j ≡ Here
 here_too graph book other of i j is again here = sym (again.status i j) ∙ is.status i j ∙ here
 
@@ -94,7 +103,8 @@ not_zero : (i : ℕ) → (i == 0) ≡ false → 1 ≤ i
 not_zero i h = grind (arith, nat_tests)
 
 -- where the graph has keys, the edge leads from a number
-pub low_of_span : (graph : GraphData) (book : Book) (of : Resource) (i j : ℕ) (keys : List Key) → TellsNumbers graph book of
+pub low_of_span : (graph : GraphData) (book : Book) (of : Resource) (i j : ℕ) (keys : List Key)
+    → TellsNumbers graph book of
     → Some keys ≡ span_of graph i j → 1 ≤ i
 low_of_span graph book of i j keys is found = by (i == 0) refl
   where
@@ -117,19 +127,23 @@ rows_began graph book of i j is here low none =
     let there : None ≡ Some (rows_at book of i) = none ∙ is.rows i (is.begins i j low here) in cc
 
 -- they are good
-pub rows_good_before : (graph : GraphData) (book : Book) (of : Resource) (i : ℕ) (rows : Rows) → TellsNumbers graph book of
+pub rows_good_before : (graph : GraphData) (book : Book) (of : Resource) (i : ℕ) (rows : Rows)
+    → TellsNumbers graph book of
     → rows ≡ rows_at book of i → AreGood rows
 rows_good_before graph book of i rows is same = subst AreGood (sym same) (is.good i)
 
 -- they are the keys between the edge's numbers
-keys_of_span : (graph : GraphData) (book : Book) (of : Resource) (i j : ℕ) (keys : List Key) → TellsNumbers graph book of
+keys_of_span : (graph : GraphData) (book : Book) (of : Resource) (i j : ℕ) (keys : List Key)
+    → TellsNumbers graph book of
     → status_at book of i j ≡ Here → 1 ≤ i → Some keys ≡ span_of graph i j → keys ≡ keys_between book of i j
 keys_of_span graph book of i j keys is here low found =
     let there : Some keys ≡ Some (keys_between book of i j) = found ∙ is.step i j low here in cc
 
 -- the edge is the patch by the graph's keys
-pub patched : (graph : GraphData) (book : Book) (of : Resource) (form : PatchForm) (i j : ℕ) (before rows : Rows) (keys : List Key) → TellsNumbers graph book of
-    → status_at book of i j ≡ Here → before ≡ rows_at book of i → rows ≡ rows_at book of j → Some keys ≡ span_of graph i j
+pub patched : (graph : GraphData) (book : Book) (of : Resource) (form : PatchForm) (i j : ℕ) (before rows : Rows)
+    (keys : List Key) → TellsNumbers graph book of
+    → status_at book of i j ≡ Here → before ≡ rows_at book of i → rows ≡ rows_at book of j
+    → Some keys ≡ span_of graph i j
     → content_reply of (patch form of before rows keys) ≡ edge_reply book of form i j
 patched graph book of form i j before rows keys is here began same found = by (i == 0) refl
   where
@@ -141,19 +155,22 @@ patched graph book of form i j before rows keys is here began same found = by (i
 
     by : (b : Bool) → (i == 0) ≡ b → content_reply of (patch form of before rows keys)
         ≡ content_reply of
-        (if b then document (document_at book of j) else patch form of (rows_at book of i) (rows_at book of j) (keys_between book of i j))
+        (if b then document (document_at book of j) else patch form of (rows_at book of i) (rows_at book of j)
+        (keys_between book of i j))
     by true h = absurd (omega (arith, low, is_zero i h))
     by false h = λ n. content_reply of (patch form of (began n) (same n) (between n))
 
 -- and where it has none, the edge is the document
-pub whole_document : (graph : GraphData) (book : Book) (of : Resource) (form : PatchForm) (i j : ℕ) (rows : Rows) → TellsNumbers graph book of
+pub whole_document : (graph : GraphData) (book : Book) (of : Resource) (form : PatchForm) (i j : ℕ) (rows : Rows)
+    → TellsNumbers graph book of
     → status_at book of i j ≡ Here → rows ≡ rows_at book of j → None ≡ span_of graph i j
     → document_reply (media_type_of of) (documents.document of rows) ≡ edge_reply book of form i j
 whole_document graph book of form i j rows is here same found = by (i == 0) refl
   where
     by : (b : Bool) → (i == 0) ≡ b → document_reply (media_type_of of) (documents.document of rows)
         ≡ content_reply of
-        (if b then document (document_at book of j) else patch form of (rows_at book of i) (rows_at book of j) (keys_between book of i j))
+        (if b then document (document_at book of j) else patch form of (rows_at book of i) (rows_at book of j)
+        (keys_between book of i j))
     by true h = rw same refl
     by false h =
         let low : 1 ≤ i = not_zero i h in
@@ -162,23 +179,27 @@ whole_document graph book of form i j rows is here same found = by (i == 0) refl
 
 -- ---- an edge brings no import
 
-edge_brings : (status : EdgeStatus) (book : Book) (of : Resource) (form : PatchForm) (i j : ℕ) → BringsEdits (edge_by status book of form i j)
+edge_brings : (status : EdgeStatus) (book : Book) (of : Resource) (form : PatchForm) (i j : ℕ)
+    → BringsEdits (edge_by status book of form i j)
 edge_brings Absent book of form i j = tt
 edge_brings Gone book of form i j = tt
 edge_brings Awaited book of form i j = tt
 edge_brings Ahead book of form i j = tt
 edge_brings Here book of form i j = tt
 
-numbered_brings : (book : Book) (of : Resource) (form : PatchForm) (i j : Option ℕ) → BringsEdits (numbered_edge book of form i j)
+numbered_brings : (book : Book) (of : Resource) (form : PatchForm) (i j : Option ℕ)
+    → BringsEdits (numbered_edge book of form i j)
 numbered_brings book of form None j = tt
 numbered_brings book of form (Some i) None = tt
 numbered_brings book of form (Some i) (Some j) = edge_brings (status_at book of i j) book of form i j
 
-named_brings : (book : Book) (of : Option Resource) (form : PatchForm) (i j : List ℕ) → BringsEdits (named_edge book of form i j)
+named_brings : (book : Book) (of : Option Resource) (form : PatchForm) (i j : List ℕ)
+    → BringsEdits (named_edge book of form i j)
 named_brings book (Some of) form i j = numbered_brings book of form (edge_number i) (edge_number j)
 named_brings book None form i j = tt
 
-pub edges_bring_none : (verb : Verb) (book : Book) (form : PatchForm) (resource i j : List ℕ) → BringsEdits (edges_answer verb book form resource i j)
+pub edges_bring_none : (verb : Verb) (book : Book) (form : PatchForm) (resource i j : List ℕ)
+    → BringsEdits (edges_answer verb book form resource i j)
 edges_bring_none verb.Get book form resource i j = named_brings book (resource_named (rows_of book) resource) form i j
 edges_bring_none verb.Post book form resource i j = tt
 edges_bring_none verb.Other book form resource i j = tt

@@ -1,5 +1,6 @@
 -- Numbers in the path of an edge.
-use Rattle.std.proofs.Common.{◌≡◌, ℕ, ◌+◌, ◌-◌, ◌*◌, ◌^◌, ◌<◌, ◌≤◌, Bool, true, false, ◌&&◌, not, List, length, take, get_or, IsTrue, lit<, refl, add-one, arith}
+use Rattle.std.proofs.Common.{◌≡◌, ℕ, ◌+◌, ◌-◌, ◌*◌, ◌^◌, ◌<◌, ◌≤◌, Bool, true, false, ◌&&◌, not, List, length, take}
+use Rattle.std.proofs.Common.{get_or, IsTrue, lit<, refl, add-one, arith}
 use Rattle.std.specs.Prelude.{nat_le}
 use Rattle.std.specs.Str.Parse.{digits_value}
 use Rattle.std.proofs.Math.Nat.{pow-le-pow_right, pow-suc}

@@ -14,5 +14,6 @@ pub find_later : (test : ℕ → Bool) (number end : ℕ) → number < end → t
     → find test (range_with_len (number + 1) (end - (number + 1))) ≡ find test (range_with_len number (end - number))
 find_later test number end below fails =
     let later : List ℕ = range_with_len (number + 1) (end - (number + 1)) in
-    let passed : find test (number ∷ later) ≡ find test later = ap (λ (b : Bool). cond b (Some number) (find test later)) fails in
+    let passed : find test (number ∷ later) ≡ find test later =
+    ap (λ (b : Bool). cond b (Some number) (find test later)) fails in
     sym (ap (find test) (numbers_step number end below) ∙ passed)

@@ -23,24 +23,31 @@ behind text written (V4 number) e = sym (ap (drop 5) e)
 behind text written (V6 number) e = sym (ap (drop 5) e)
 
 -- a text writes one typed address at most
-pub one_typed_addr : (text : List ℕ) (one other : Addr) → WritesTypedAddr text one → WritesTypedAddr text other → one ≡ other
+pub one_typed_addr : (text : List ℕ) (one other : Addr) → WritesTypedAddr text one
+    → WritesTypedAddr text other → one ≡ other
 one_typed_addr text one other h k =
     one_address (drop 5 text) one other (subst (λ t. IsAddrText t one) (behind text h.0 one h.1) h.2)
     (subst (λ t. IsAddrText t other) (behind text k.0 other k.1) k.2)
 
 -- what says which address a text writes, if any, reads it
-pub reads_addr : (text : List ℕ) (read : Option Addr) → ((addr : Addr) → WritesTypedAddr text addr ↔ (read ≡ Some addr)) → ReadsAddr text read
+pub reads_addr : (text : List ℕ) (read : Option Addr) → ((addr : Addr) → WritesTypedAddr text addr ↔ (read ≡ Some addr))
+    → ReadsAddr text read
 reads_addr text (Some addr) told = (told addr).1 refl
 reads_addr text None told = λ addr written. let none : None ≡ Some addr = (told addr).0 written in cc
 
 -- the table that a version has of a network is that of its prefixes
 pub table_in_version : (version : Version) (book : Book) (net : List ℕ) → StandsFor version book
     → prefixes_named (rows_of book) (Ok net) ≡ table_in version.tables net
-table_in_version version book net stands = sym (ap (λ tables. table_in tables net) stands.tables ∙ table_found (rows_of book) net)
+table_in_version version book net stands =
+    sym (ap (λ tables. table_in tables net) stands.tables ∙ table_found (rows_of book) net)
 
 -- the reply that a table and an address give answers the look-up
 pub looked_up : (rows : Rows) (net text : List ℕ) (table : Option (List Row)) (addr : Option Addr) (reply : ReplyData)
     → prefixes_named rows (named is_net_byte 24 net) ≡ table → ReadsAddr text addr → reply ≡ lookup_reply table addr
     → LookupAnswer verb.Get rows net text (answer.Reply reply)
-looked_up rows net text table addr reply found reads made =
-    (addr, reads, ap (λ (r : ReplyData). answer.Reply r) (made ∙ ap (λ (t : Option (List Row)). lookup_reply t addr) (sym found)))
+looked_up rows net text table addr reply found reads made = (
+  addr,
+  reads,
+  ap (λ (r : ReplyData). answer.Reply r)
+      (made ∙ ap (λ (t : Option (List Row)). lookup_reply t addr) (sym found)),
+)

@@ -14,17 +14,22 @@ use Rattle.alto_answers.specs.declared.route.Query.{Query}
 use Rattle.alto_answers.specs.Answers.{seen_at}
 use Rattle.alto_answers.specs.Queries.{QueryAnswer, Seen, seen_in}
 
-seen_of_book : (version : Version) (book : Book) (peer : Option Addr) → StandsFor version book → seen_in version peer ≡ seen_at book peer
+seen_of_book : (version : Version) (book : Book) (peer : Option Addr) → StandsFor version book
+    → seen_in version peer ≡ seen_at book peer
 seen_of_book version book peer stands = λ i. record { rows = stands.current i; number = stands.number i; peer = peer }
 
 -- so an answer at the version is one at the book
-pub answer_of_book : (of : Query) (verb : Verb) (content_type : Option (List ℕ)) (version : Version) (peer : Option Addr) (text body : List ℕ) (given : Answer)
+pub answer_of_book : (of : Query) (verb : Verb) (content_type : Option (List ℕ)) (version : Version)
+    (peer : Option Addr) (text body : List ℕ) (given : Answer)
     → QueryAnswer of verb content_type (seen_in version peer) text body given → (book : Book) → StandsFor version book
     → QueryAnswer of verb content_type (seen_at book peer) text body given
 answer_of_book of verb content_type version peer text body given is book stands =
-    subst (λ (seen : Seen). QueryAnswer of verb content_type seen text body given) (seen_of_book version book peer stands) is
+    subst (λ (seen : Seen). QueryAnswer of verb content_type seen text body given)
+    (seen_of_book version book peer stands) is
 
 -- the table that a version has of a declared network
-pub table_declared : (rows : Rows) (tables : List NetTable) (net : List ℕ) → tables ≡ tables_in rows → has_row rows (key.Net net) ≡ true
+pub table_declared : (rows : Rows) (tables : List NetTable) (net : List ℕ) → tables ≡ tables_in rows
+    → has_row rows (key.Net net) ≡ true
     → table_in tables net ≡ Some (prefixes_in rows net)
-table_declared rows tables net is declared = rw is (table_found rows net ∙ ap (λ (b : Bool). if b then Some (prefixes_in rows net) else None) declared)
+table_declared rows tables net is declared =
+    rw is (table_found rows net ∙ ap (λ (b : Bool). if b then Some (prefixes_in rows net) else None) declared)

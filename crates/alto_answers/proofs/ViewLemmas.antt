@@ -6,7 +6,8 @@ use Rattle.alto_replies.specs.Errors.{reply_or_error}
 use Rattle.alto_replies.specs.Reply.{ReplyData}
 
 -- two facts of a value, and what follows from both
-pub if_ok_both : {T E : Type 0} {P Q R : T → Type 0} (r : Result T E) → ((x : T) → P x → Q x → R x) → IfOk r P → IfOk r Q → IfOk r R
+pub if_ok_both : {T E : Type 0} {P Q R : T → Type 0} (r : Result T E) → ((x : T) → P x → Q x → R x) → IfOk r P
+    → IfOk r Q → IfOk r R
 if_ok_both (Ok x) both p q = both x p q
 if_ok_both (Err e) both p q = tt
 

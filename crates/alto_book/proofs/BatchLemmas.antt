@@ -1,10 +1,12 @@
--- A batch that follows rows: the writes of its edits and the version rows of what these touch. What edits make of good rows
+-- A batch that follows rows: the writes of its edits and the version rows of what these touch. What edits make of good
+-- rows
 -- follows them.
 use Rattle.std.proofs.Common.{◌≡◌, refl, ap, ◌∙◌, arith}
 use Rattle.std.proofs.lemmas.Bool.{or_parts}
 use Rattle.std.proofs.lemmas.List.{append-nil}
 use Rattle.std.proofs.lemmas.List.Elements.{filter-append, recursion_from_All}
-use Rattle.std.specs.Prelude.{◌+◌, ◌≤◌, Bool, true, false, not, cond, ◌&&◌, List, [], ◌∷◌, length, map, filter, Some, is_some}
+use Rattle.std.specs.Prelude.{◌+◌, ◌≤◌, Bool, true, false, not, cond, ◌&&◌, List, [], ◌∷◌, length, map, filter, Some}
+use Rattle.std.specs.Prelude.{is_some}
 use Rattle.std.specs.List.{AllByRecursion}
 use Rattle.std.specs.Ordering.{is_eq}
 use Rattle.alto_rows.proofs.SoundLemmas.{sound_of_good}
@@ -44,7 +46,8 @@ edits_fit_in : (writes : List Write) → AllByRecursion FitsBatch writes → All
 edits_fit_in [] all = tt
 edits_fit_in (write ∷ writes) all = by (is_version write.key) refl (edits_fit_in writes all.1)
   where
-    by : (b : Bool) → is_version write.key ≡ b → AllByRecursion FitsEdit (edits_in writes) → AllByRecursion FitsEdit (edits_in (write ∷ writes))
+    by : (b : Bool) → is_version write.key ≡ b → AllByRecursion FitsEdit (edits_in writes)
+        → AllByRecursion FitsEdit (edits_in (write ∷ writes))
     by true e below = rw e below
     by false e below = rw e (fits_edit write all.0 e, below)
 
@@ -63,7 +66,8 @@ pub none_versions_edited : (writes : List Write) (of : Resource) → NoneWrites 
 none_versions_edited [] of = tt
 none_versions_edited (write ∷ writes) of = by (is_version write.key) refl (none_versions_edited writes of)
   where
-    by : (b : Bool) → is_version write.key ≡ b → NoneWrites (key.Seq of) (edits_in writes) → NoneWrites (key.Seq of) (edits_in (write ∷ writes))
+    by : (b : Bool) → is_version write.key ≡ b → NoneWrites (key.Seq of) (edits_in writes)
+        → NoneWrites (key.Seq of) (edits_in (write ∷ writes))
     by true e below = rw e below
     by false e below = rw e (apart write.key of e, below)
 
@@ -72,16 +76,19 @@ none_versions_edited (write ∷ writes) of = by (is_version write.key) refl (non
 -- the version row of a resource after a batch
 pub value_of-follows : (rows : Rows) (batch : Accepted) (of : Resource) → AreSorted rows → Follows rows batch
     → value_of (after rows batch.writes) (key.Seq of)
-    ≡ cond (is_touched (edits_in batch.writes) of && is_declared (after rows (edits_in batch.writes)) of) (next_of rows of) (value_of rows (key.Seq of))
+    ≡ cond (is_touched (edits_in batch.writes) of && is_declared (after rows (edits_in batch.writes)) of)
+    (next_of rows of) (value_of rows (key.Seq of))
 value_of-follows rows batch of s follows =
     ap (λ (writes : List Write). value_of (after rows writes) (key.Seq of)) follows.whole
     ∙ value_of-batch rows (edits_in batch.writes) of s (edits_fit rows batch follows)
 
 -- a batch keeps a version or raises it by one
 pub version_of-batch : (rows : Rows) (batch : Accepted) (of : Resource) → AreSorted rows → Follows rows batch
-    → (version_of rows of ≤ version_of (after rows batch.writes) of) × (version_of (after rows batch.writes) of ≤ version_of rows of + 1)
+    → (version_of rows of ≤ version_of (after rows batch.writes) of)
+    × (version_of (after rows batch.writes) of ≤ version_of rows of + 1)
 version_of-batch rows batch of s follows =
-    rw (value_of-follows rows batch of s follows) (by (is_touched (edits_in batch.writes) of && is_declared (after rows (edits_in batch.writes)) of))
+    rw (value_of-follows rows batch of s follows)
+    (by (is_touched (edits_in batch.writes) of && is_declared (after rows (edits_in batch.writes)) of))
   where
     by : (b : Bool) → (version_of rows of ≤ number_in (cond b (next_of rows of) (value_of rows (key.Seq of))))
         × (number_in (cond b (next_of rows of) (value_of rows (key.Seq of))) ≤ version_of rows of + 1)
@@ -92,7 +99,8 @@ version_of-batch rows batch of s follows =
 pub is_declared-follows : (rows : Rows) (batch : Accepted) (of : Resource) → AreSorted rows → Follows rows batch
     → is_declared (after rows batch.writes) of ≡ is_declared (after rows (edits_in batch.writes)) of
 is_declared-follows rows batch of s follows =
-    ap (λ (writes : List Write). is_declared (after rows writes) of) follows.whole ∙ is_declared-batch rows (edits_in batch.writes) of s
+    ap (λ (writes : List Write). is_declared (after rows writes) of) follows.whole
+    ∙ is_declared-batch rows (edits_in batch.writes) of s
 
 -- the row that declares a resource is part of a document that the resource depends on
 abbrev declared_by : Resource → Resource
@@ -105,15 +113,20 @@ part_declaring (resource.Cost net metric) = refl
 part_declaring (resource.Prop net) = refl
 
 -- writes that don't touch a resource leave whether it is declared
-pub is_declared-untouched : (rows : Rows) (writes : List Write) (of : Resource) → AreSorted rows → is_touched writes of ≡ false
+pub is_declared-untouched : (rows : Rows) (writes : List Write) (of : Resource) → AreSorted rows
+    → is_touched writes of ≡ false
     → is_declared (after rows writes) of ≡ is_declared rows of
 is_declared-untouched rows writes of s h =
-    ap is_some (value_of-after-none rows writes (declaring_key of) s (none_part (declared_by of) (declaring_key of) writes (part_declaring of) (unwritten of h)))
+    ap is_some (value_of-after-none rows writes (declaring_key of)
+    s (none_part (declared_by of) (declaring_key of) writes (part_declaring of) (unwritten of h)))
   where
     unwritten : (one : Resource) → is_touched writes one ≡ false → is_written writes (declared_by one) ≡ false
-    unwritten (resource.Cost net metric) g = (or_parts (is_written writes (resource.Cost net metric)) (is_written writes (resource.Net net)) g).0
-    unwritten (resource.Net net) g = (or_parts (is_written writes (resource.Net net)) (is_written writes (resource.Net net)) g).1
-    unwritten (resource.Prop net) g = (or_parts (is_written writes (resource.Prop net)) (is_written writes (resource.Net net)) g).1
+    unwritten (resource.Cost net metric) g =
+        (or_parts (is_written writes (resource.Cost net metric)) (is_written writes (resource.Net net)) g).0
+    unwritten (resource.Net net) g =
+        (or_parts (is_written writes (resource.Net net)) (is_written writes (resource.Net net)) g).1
+    unwritten (resource.Prop net) g =
+        (or_parts (is_written writes (resource.Prop net)) (is_written writes (resource.Net net)) g).1
 
 -- ---- what edits make
 
@@ -136,8 +149,10 @@ edits_in-versions rows (of ∷ ofs) = edits_in-versions rows ofs
 pub compiled_follows : (rows : Rows) (edits : List Edit) (past : Past) (batch : Accepted)
     → MakeBatch rows edits past batch.writes → AreWithin rows → Follows rows batch
 compiled_follows rows edits past batch make within =
-    let it : Compiles rows past batch.writes = compiles rows edits past batch.writes (sound_of_good rows make.good) make.are_edits make.made in
-    let few : AreWithin (after rows batch.writes) × (length batch.writes ≤ 16384) = compiled_rows_are_within rows edits past batch.writes make within in
+    let it : Compiles rows past batch.writes = compiles rows edits past batch.writes (sound_of_good rows make.good)
+    make.are_edits make.made in
+    let few : AreWithin (after rows batch.writes) × (length batch.writes ≤ 16384) =
+    compiled_rows_are_within rows edits past batch.writes make within in
     record {
       fit = compiled_writes_fit rows edits past batch.writes make;
       whole = rw (own it) it.whole;
@@ -150,4 +165,8 @@ compiled_follows rows edits past batch make within =
     own it =
         ap edits_in it.whole
         ∙ (filter-append (λ (write : Write). not (is_version write.key)) it.edits (sequence_writes rows it.edits)
-        ∙ rw (edits_in-edits it.edits it.keeps.fit, edits_in-versions rows (filter (is_touched it.edits) (resources_of (after rows it.edits)))) (append-nil it.edits))
+        ∙ rw (
+          edits_in-edits it.edits it.keeps.fit,
+          edits_in-versions rows (filter (is_touched it.edits) (resources_of (after rows it.edits))),
+        )
+        (append-nil it.edits))

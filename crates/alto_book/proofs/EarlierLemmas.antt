@@ -30,15 +30,24 @@ pub earlier_is_legal : EarlierBooksAreLegal
 earlier_is_legal earlier later legal more = record {
   base = rw (← more.base, ← more.receipts) legal.base;
   small = rw (← more.receipts) legal.small;
-  each = λ n batch there. rw (← state_at-extended earlier later n more (omega (arith, slice_get_within earlier.batches n batch there)))
+  each = λ n batch there. rw (← state_at-extended earlier later n
+      more (omega (arith, slice_get_within earlier.batches n batch there)))
       (legal.each n batch (rw more.batches (slice_get-extended earlier.batches more.more n batch there)));
   ids = distinct_first same_name _ (map (λ kept. kept.id) (map kept_of more.more))
-      (rw (← map-append (λ (kept : Kept). kept.id) (all_kept earlier) (map kept_of more.more), ← all_kept-extended earlier later more) legal.ids);
-  moments = λ m n first last before there here. legal.moments m n first last before (found m first there) (found n last here);
+      (rw (
+        ← map-append (λ (kept : Kept). kept.id) (all_kept earlier) (map kept_of more.more),
+        ← all_kept-extended earlier later more,
+      ) legal.ids);
+  moments = λ m n first last before there here. legal.moments m n first last before (found m first there)
+      (found n last here);
   batches = front_length earlier.batches more.more 4096 (rw (← more.batches) legal.batches);
   writes = front_length (writes_in earlier.batches) (writes_in more.more) 524288
-      (rw (← flat_map-append (λ (batch : Accepted). batch.writes) earlier.batches more.more, ← more.batches) legal.writes);
+      (rw (
+        ← flat_map-append (λ (batch : Accepted). batch.writes) earlier.batches more.more,
+        ← more.batches,
+      ) legal.writes);
 }
   where
     found : (n : ℕ) (one : Kept) → slice_get (all_kept earlier) n ≡ Some one → slice_get (all_kept later) n ≡ Some one
-    found n one there = rw (all_kept-extended earlier later more) (slice_get-extended (all_kept earlier) (map kept_of more.more) n one there)
+    found n one there = rw (all_kept-extended earlier later more)
+        (slice_get-extended (all_kept earlier) (map kept_of more.more) n one there)

@@ -24,7 +24,8 @@ slice_get-push [] x (suc n) y h = cc
 slice_get-push (first ∷ xs) x zero y h = inl h
 slice_get-push (first ∷ xs) x (suc n) y h = by (slice_get-push xs x n y h)
   where
-    by : (slice_get xs n ≡ Some y) ⊎ ((n ≡ length xs) × (x ≡ y)) → (slice_get xs n ≡ Some y) ⊎ ((suc n ≡ suc (length xs)) × (x ≡ y))
+    by : (slice_get xs n ≡ Some y) ⊎ ((n ≡ length xs) × (x ≡ y))
+        → (slice_get xs n ≡ Some y) ⊎ ((suc n ≡ suc (length xs)) × (x ≡ y))
     by (inl g) = inl g
     by (inr g) = inr (ap suc g.0, g.1)
 
@@ -41,23 +42,38 @@ record HasLast (kept : List Kept) (start m : ℕ) : Type 0 where
 -- where anything was kept there is a last
 has_last : (kept : List Kept) (start m : ℕ) (one : Kept) → slice_get kept m ≡ Some one → HasLast kept start m
 has_last [] start m one h = cc
-has_last (first ∷ []) start zero one h = record { place = 0; last = first; at_least = omega arith; there = refl; moment = refl }
+has_last (first ∷ []) start zero one h =
+    record { place = 0; last = first; at_least = omega arith; there = refl; moment = refl }
 has_last (first ∷ []) start (suc m) one h = cc
 has_last (first ∷ next ∷ kept) start zero one h =
     let more : HasLast (next ∷ kept) first.moment 0 = has_last (next ∷ kept) first.moment 0 next refl in
-    record { place = suc more.place; last = more.last; at_least = omega arith; there = more.there; moment = more.moment }
+    record {
+      place = suc more.place;
+      last = more.last;
+      at_least = omega arith;
+      there = more.there;
+      moment = more.moment;
+    }
 has_last (first ∷ next ∷ kept) start (suc m) one h =
     let more : HasLast (next ∷ kept) first.moment m = has_last (next ∷ kept) first.moment m one h in
-    record { place = suc more.place; last = more.last; at_least = omega arith; there = more.there; moment = more.moment }
+    record {
+      place = suc more.place;
+      last = more.last;
+      at_least = omega arith;
+      there = more.there;
+      moment = more.moment;
+    }
 
 -- no moment is later than the last
-pub moment_below : (kept : List Kept) (m : ℕ) (one : Kept) → NeverFall kept → slice_get kept m ≡ Some one → one.moment ≤ last_moment kept
+pub moment_below : (kept : List Kept) (m : ℕ) (one : Kept) → NeverFall kept → slice_get kept m ≡ Some one
+    → one.moment ≤ last_moment kept
 moment_below kept m one rising h =
     let end : HasLast kept 0 m = has_last kept 0 m one h in
     rw end.moment (rising m end.place one end.last end.at_least h end.there)
 
 -- moments never fall where one more is no earlier than the last
-moments_grown : (kept : List Kept) (new : Kept) → NeverFall kept → last_moment kept ≤ new.moment → NeverFall (kept ++ new ∷ [])
+moments_grown : (kept : List Kept) (new : Kept) → NeverFall kept → last_moment kept ≤ new.moment
+    → NeverFall (kept ++ new ∷ [])
 moments_grown kept new rising late m n earlier later le h g =
     by (slice_get-push kept new m earlier h) (slice_get-push kept new n later g)
   where
@@ -75,15 +91,19 @@ moments_grown kept new rising late m n earlier later le h g =
 -- ---- what each batch follows
 
 -- the rows before the new batch are as they were
-pub state_at-grown : (book : Book) (batch : Accepted) (n : ℕ) → n ≤ length book.batches → state_at (with_batch book batch) n ≡ state_at book n
-state_at-grown book batch n le = ap (λ (batches : List Accepted). after book.base (writes_in batches)) (take-append-le n book.batches (batch ∷ []) le)
+pub state_at-grown : (book : Book) (batch : Accepted) (n : ℕ) → n ≤ length book.batches
+    → state_at (with_batch book batch) n ≡ state_at book n
+state_at-grown book batch n le = ap (λ (batches : List Accepted). after book.base (writes_in batches))
+    (take-append-le n book.batches (batch ∷ []) le)
 
 -- each batch follows the rows before it
 each_grown : (book : Book) (batch : Accepted) → IsLegal book → Follows (rows_of book) batch
-    → (n : ℕ) (one : Accepted) → slice_get (book.batches ++ batch ∷ []) n ≡ Some one → Follows (state_at (with_batch book batch) n) one
+    → (n : ℕ) (one : Accepted) → slice_get (book.batches ++ batch ∷ []) n ≡ Some one
+    → Follows (state_at (with_batch book batch) n) one
 each_grown book batch legal follows n one h = by (slice_get-push book.batches batch n one h)
   where
-    by : (slice_get book.batches n ≡ Some one) ⊎ ((n ≡ length book.batches) × (batch ≡ one)) → Follows (state_at (with_batch book batch) n) one
+    by : (slice_get book.batches n ≡ Some one) ⊎ ((n ≡ length book.batches) × (batch ≡ one))
+        → Follows (state_at (with_batch book batch) n) one
     by (inl a) =
         let within : n < length book.batches = slice_get_within book.batches n one a in
         rw (state_at-grown book batch n (omega arith)) (legal.each n one a)
@@ -96,26 +116,33 @@ each_grown book batch legal follows n one h = by (slice_get-push book.batches ba
 -- ---- the book
 
 -- the writes of one batch more
-pub writes_in-grown : (batches : List Accepted) (batch : Accepted) → writes_in (batches ++ batch ∷ []) ≡ writes_in batches ++ batch.writes
+pub writes_in-grown : (batches : List Accepted) (batch : Accepted)
+    → writes_in (batches ++ batch ∷ []) ≡ writes_in batches ++ batch.writes
 writes_in-grown batches batch =
-    flat_map-append (λ (one : Accepted). one.writes) batches (batch ∷ []) ∙ ap (λ (more : List Write). writes_in batches ++ more) (append-nil batch.writes)
+    flat_map-append (λ (one : Accepted). one.writes) batches (batch ∷ [])
+    ∙ ap (λ (more : List Write). writes_in batches ++ more) (append-nil batch.writes)
 
 -- what is kept of one batch more
-pub all_kept-grown : (book : Book) (batch : Accepted) → all_kept (with_batch book batch) ≡ all_kept book ++ kept_of batch ∷ []
+pub all_kept-grown : (book : Book) (batch : Accepted)
+    → all_kept (with_batch book batch) ≡ all_kept book ++ kept_of batch ∷ []
 all_kept-grown book batch =
     ap (λ (kept : List Kept). book.receipts ++ kept) (map-append kept_of book.batches (batch ∷ []))
     ∙ sym (append_assoc book.receipts (map kept_of book.batches) (kept_of batch ∷ []))
 
 -- ids stay different where one more is of none
-ids_grown : (kept : List Kept) (new : Kept) → IsDistinct same_name (map (λ one. one.id) kept) → list_any (same_name new.id) (map (λ one. one.id) kept) ≡ false
+ids_grown : (kept : List Kept) (new : Kept) → IsDistinct same_name (map (λ one. one.id) kept)
+    → list_any (same_name new.id) (map (λ one. one.id) kept) ≡ false
     → IsDistinct same_name (map (λ one. one.id) (kept ++ new ∷ []))
 ids_grown kept new distinct h =
-    rw (map-append (λ (one : Kept). one.id) kept (new ∷ [])) (IsDistinct-push nat_list_eq_equiv (map (λ (one : Kept). one.id) kept) new.id distinct h)
+    rw (map-append (λ (one : Kept). one.id) kept (new ∷ []))
+    (IsDistinct-push nat_list_eq_equiv (map (λ (one : Kept). one.id) kept) new.id distinct h)
 
 -- a legal book with one batch more is legal
 pub legal_grown : (book : Book) (batch : Accepted) → IsLegal book → Follows (rows_of book) batch
-    → list_any (same_name batch.id) (map (λ one. one.id) (all_kept book)) ≡ false → last_moment (all_kept book) ≤ batch.moment
-    → length book.batches + 1 ≤ 4096 → length (writes_in book.batches) + length batch.writes ≤ 524288 → IsLegal (with_batch book batch)
+    → list_any (same_name batch.id) (map (λ one. one.id) (all_kept book)) ≡ false
+    → last_moment (all_kept book) ≤ batch.moment
+    → length book.batches + 1 ≤ 4096 → length (writes_in book.batches) + length batch.writes ≤ 524288
+    → IsLegal (with_batch book batch)
 legal_grown book batch legal follows new late few small = record {
   base = legal.base;
   small = legal.small;

@@ -11,16 +11,20 @@ use Rattle.alto_book.proofs.BatchLemmas.{version_of-batch}
 use Rattle.alto_book.proofs.StateLemmas.{state_at-next, state_at-past, good_state}
 
 -- a later version is no lower
-pub version_of-later : (book : Book) (m n : ℕ) (of : Resource) → IsLegal book → m ≤ n → version_of (state_at book m) of ≤ version_of (state_at book n) of
+pub version_of-later : (book : Book) (m n : ℕ) (of : Resource) → IsLegal book → m ≤ n
+    → version_of (state_at book m) of ≤ version_of (state_at book n) of
 version_of-later book m zero of legal le =
     let none : m ≡ 0 = omega arith in
     rw none (omega arith)
-version_of-later book m (suc n) of legal le = by (λ within. version_of-later book m n of legal within) (cases_lt m (suc n))
+version_of-later book m (suc n) of legal le =
+    by (λ within. version_of-later book m n of legal within) (cases_lt m (suc n))
   where
-    step : (o : Option Accepted) → slice_get book.batches n ≡ o → version_of (state_at book n) of ≤ version_of (state_at book (suc n)) of
+    step : (o : Option Accepted) → slice_get book.batches n ≡ o
+        → version_of (state_at book n) of ≤ version_of (state_at book (suc n)) of
     step None e = rw (state_at-past book n e) (omega arith)
     step (Some batch) e =
-        rw (state_at-next book n batch e) (version_of-batch (state_at book n) batch of (good_state book n legal).sorted (legal.each n batch e)).0
+        rw (state_at-next book n batch e) (version_of-batch (state_at book n) batch of (good_state book n legal).sorted
+        (legal.each n batch e)).0
 
     by : (m ≤ n → version_of (state_at book m) of ≤ version_of (state_at book n) of) → (m < suc n) ⊎ (suc n ≤ m)
         → version_of (state_at book m) of ≤ version_of (state_at book (suc n)) of
@@ -30,5 +34,6 @@ version_of-later book m (suc n) of legal le = by (λ within. version_of-later bo
     by below (inl h) =
         let within : m ≤ n = omega arith in
         let before : version_of (state_at book m) of ≤ version_of (state_at book n) of = below within in
-        let next : version_of (state_at book n) of ≤ version_of (state_at book (suc n)) of = step (slice_get book.batches n) refl in
+        let next : version_of (state_at book n) of ≤ version_of (state_at book (suc n)) of =
+        step (slice_get book.batches n) refl in
         omega arith

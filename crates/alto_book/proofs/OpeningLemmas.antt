@@ -30,7 +30,8 @@ fit_opening epoch window is low high key.Window = (tt, (low, high))
 fit_opening epoch window is low high _ = tt
 
 -- no row of a new book names another
-declared_opening : (epoch : List ℕ) (window : ℕ) (at : Key) (v : Value) → value_of (opening_rows epoch window) at ≡ Some v
+declared_opening : (epoch : List ℕ) (window : ℕ) (at : Key) (v : Value)
+    → value_of (opening_rows epoch window) at ≡ Some v
     → AllByRecursion (λ need. has_row (opening_rows epoch window) need ≡ true) (needs at v)
 unfolding key_cmp
 declared_opening epoch window key.Epoch v h = tt
@@ -38,21 +39,24 @@ declared_opening epoch window key.Window v h = tt
 declared_opening epoch window _ v h = cc
 
 -- no resource is declared in a new book
-versions_opening : (epoch : List ℕ) (window : ℕ) (of : Resource) → is_declared (opening_rows epoch window) of ≡ true → has_row (opening_rows epoch window) (key.Seq of) ≡ true
+versions_opening : (epoch : List ℕ) (window : ℕ) (of : Resource) → is_declared (opening_rows epoch window) of ≡ true
+    → has_row (opening_rows epoch window) (key.Seq of) ≡ true
 unfolding key_cmp
 versions_opening epoch window (resource.Net net) h = cc
 versions_opening epoch window (resource.Cost net metric) h = cc
 versions_opening epoch window (resource.Prop net) h = cc
 
 -- the rows of a new book are good
-pub good_opening : (epoch : List ℕ) (window : ℕ) → IsEpoch epoch → 2 ≤ window → window ≤ 32 → AreGood (opening_rows epoch window)
+pub good_opening : (epoch : List ℕ) (window : ℕ) → IsEpoch epoch → 2 ≤ window → window ≤ 32
+    → AreGood (opening_rows epoch window)
 unfolding key_cmp IsStrictlySortedBy
 good_opening epoch window is low high = record {
   sorted = ((refl, tt), (tt, tt));
   fit = fit_opening epoch window is low high;
   epoch = refl;
   window = refl;
-  declared = λ at v h. All-from_recursion (λ (need : Key). has_row (opening_rows epoch window) need ≡ true) (needs at v) (declared_opening epoch window at v h);
+  declared = λ at v h. All-from_recursion (λ (need : Key). has_row (opening_rows epoch window) need ≡ true) (needs at v)
+      (declared_opening epoch window at v h);
   one_pid = λ net first second prefix h g. cc;
   versions = versions_opening epoch window;
 }
@@ -75,7 +79,8 @@ unfolding key_cmp
 version_of-opening epoch window of = refl
 
 -- a new book is legal
-pub legal_opening : (epoch : List ℕ) (window : ℕ) → IsEpoch epoch → 2 ≤ window → window ≤ 32 → IsLegal (opening_book epoch window)
+pub legal_opening : (epoch : List ℕ) (window : ℕ) → IsEpoch epoch → 2 ≤ window → window ≤ 32
+    → IsLegal (opening_book epoch window)
 unfolding IsDistinct
 legal_opening epoch window is low high = record {
   base = record {

@@ -23,7 +23,8 @@ use Rattle.alto_book.specs.Laws.{IsOfImport, RefusalIsOfTheImport}
 abbrev AreAtFault : Result (List Write) CompileFault → Type 0
 AreAtFault result = IfErr result (λ why. IsOfImport (edit_fault why))
 
-stopped : (row : ℕ) (writes : List Write) (broken : Option Rule) (result : Result (List Write) CompileFault) → AreAtFault result
+stopped : (row : ℕ) (writes : List Write) (broken : Option Rule) (result : Result (List Write) CompileFault)
+    → AreAtFault result
     → AreAtFault (unless_broken row broken (before writes result))
 stopped row writes (Some rule) result h = tt
 stopped row writes None (Ok more) h = tt
@@ -32,7 +33,8 @@ stopped row writes None (Err why) h = h
 edits_stopped : (rows : Rows) (row : ℕ) (edits : List Edit) → AreAtFault (edits_writes rows row edits)
 edits_stopped rows row [] = tt
 edits_stopped rows row (edit ∷ edits) =
-    stopped row (writes_of rows edit) (broken_rule rows edit) (edits_writes (after rows (writes_of rows edit)) (row + 1) edits)
+    stopped row (writes_of rows edit) (broken_rule rows edit)
+    (edits_writes (after rows (writes_of rows edit)) (row + 1) edits)
     (edits_stopped (after rows (writes_of rows edit)) (row + 1) edits)
 
 -- so does a whole batch of them
@@ -41,7 +43,8 @@ compiled_stopped rows edits past = by (edits_writes rows 1 edits) (edits_stopped
   where
     by : (result : Result (List Write) CompileFault) → AreAtFault result → AreAtFault (whole_batch rows past result)
     by (Ok writes) h =
-        stopped 0 [] (broken_by_batch rows past (writes ++ sequence_writes rows writes)) (Ok (writes ++ sequence_writes rows writes)) tt
+        stopped 0 [] (broken_by_batch rows past (writes ++ sequence_writes rows writes))
+        (Ok (writes ++ sequence_writes rows writes)) tt
     by (Err why) h = h
 
 -- an import is refused for its own fault alone
@@ -49,11 +52,13 @@ pub refused_for_itself : RefusalIsOfTheImport
 unfolding accept
 refused_for_itself book import moment = by (known (all_kept book) import.id)
   where
-    told : (n : ℕ) (receipt : Receipt) (same : Bool) → IfErr (if same then Ok receipt else Err (fault.OtherBody n)) IsOfImport
+    told : (n : ℕ) (receipt : Receipt) (same : Bool)
+        → IfErr (if same then Ok receipt else Err (fault.OtherBody n)) IsOfImport
     told n receipt true = tt
     told n receipt false = tt
 
-    made : (result : Result (List Write) CompileFault) → AreAtFault result → IfErr (accept_new book import moment result).answer IsOfImport
+    made : (result : Result (List Write) CompileFault) → AreAtFault result
+        → IfErr (accept_new book import moment result).answer IsOfImport
     made (Ok writes) h = tt
     made (Err why) h = h
 
@@ -62,4 +67,5 @@ refused_for_itself book import moment = by (known (all_kept book) import.id)
 
     by : (found : Option (ℕ × Kept)) → IfErr (accept_unless_known found book import moment).answer IsOfImport
     by (Some numbered) = answered numbered
-    by None = made (compiled (rows_of book) import.edits (past_of book)) (compiled_stopped (rows_of book) import.edits (past_of book))
+    by None = made (compiled (rows_of book) import.edits (past_of book))
+        (compiled_stopped (rows_of book) import.edits (past_of book))

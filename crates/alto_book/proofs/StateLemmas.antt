@@ -28,7 +28,8 @@ writes_in-next (first ∷ batches) (suc n) batch h =
 -- the rows after one batch more
 pub state_at-next : (book : Book) (n : ℕ) (batch : Accepted) → slice_get book.batches n ≡ Some batch
     → state_at book (suc n) ≡ after (state_at book n) batch.writes
-state_at-next book n batch h = rw (writes_in-next book.batches n batch h) (after-append book.base (writes_in (take n book.batches)) batch.writes)
+state_at-next book n batch h =
+    rw (writes_in-next book.batches n batch h) (after-append book.base (writes_in (take n book.batches)) batch.writes)
 
 -- the batches before the end of a list
 take-past : (batches : List Accepted) (n : ℕ) → slice_get batches n ≡ None → take (suc n) batches ≡ take n batches
@@ -39,18 +40,21 @@ take-past (first ∷ batches) (suc n) h = ap (λ (rest : List Accepted). first �
 
 -- past the last batch the rows stay
 pub state_at-past : (book : Book) (n : ℕ) → slice_get book.batches n ≡ None → state_at book (suc n) ≡ state_at book n
-state_at-past book n h = ap (λ (batches : List Accepted). after book.base (writes_in batches)) (take-past book.batches n h)
+state_at-past book n h = ap (λ (batches : List Accepted). after book.base (writes_in batches))
+    (take-past book.batches n h)
 
 -- the rows after as many batches as there are
 pub state_at-all : (book : Book) → state_at book (length book.batches) ≡ rows_of book
-state_at-all book = ap (λ (batches : List Accepted). after book.base (writes_in batches)) (take_all (length book.batches) book.batches (omega arith))
+state_at-all book = ap (λ (batches : List Accepted). after book.base (writes_in batches))
+    (take_all (length book.batches) book.batches (omega arith))
 
 -- the rows after each batch of a legal book are good
 pub good_state : (book : Book) (n : ℕ) → IsLegal book → AreGood (state_at book n)
 good_state book zero legal = legal.base.good
 good_state book (suc n) legal = by (good_state book n legal) (slice_get book.batches n) refl
   where
-    by : AreGood (state_at book n) → (o : Option Accepted) → slice_get book.batches n ≡ o → AreGood (state_at book (suc n))
+    by : AreGood (state_at book n) → (o : Option Accepted) → slice_get book.batches n ≡ o
+        → AreGood (state_at book (suc n))
     by good None e = rw (state_at-past book n e) good
     by good (Some batch) e = rw (state_at-next book n batch e) (legal.each n batch e).good
 
@@ -63,7 +67,8 @@ pub state_within : (book : Book) (n : ℕ) → IsLegal book → AreWithin (state
 state_within book zero legal = legal.base.within
 state_within book (suc n) legal = by (state_within book n legal) (slice_get book.batches n) refl
   where
-    by : AreWithin (state_at book n) → (o : Option Accepted) → slice_get book.batches n ≡ o → AreWithin (state_at book (suc n))
+    by : AreWithin (state_at book n) → (o : Option Accepted) → slice_get book.batches n ≡ o
+        → AreWithin (state_at book (suc n))
     by within None e = rw (state_at-past book n e) within
     by within (Some batch) e = rw (state_at-next book n batch e) (legal.each n batch e).within
 
@@ -72,13 +77,15 @@ pub rows_within : (book : Book) → IsLegal book → AreWithin (rows_of book)
 rows_within book legal = rw (← state_at-all book) (state_within book (length book.batches) legal)
 
 -- no version is above the number of batches that there were
-pub version_of-state_at : (book : Book) (n : ℕ) (of : Resource) → IsLegal book → version_of (state_at book n) of ≤ length book.receipts + n
+pub version_of-state_at : (book : Book) (n : ℕ) (of : Resource) → IsLegal book
+    → version_of (state_at book n) of ≤ length book.receipts + n
 version_of-state_at book zero of legal =
     let below : version_of book.base of ≤ length book.receipts = legal.base.versions of in
     omega arith
 version_of-state_at book (suc n) of legal = by (version_of-state_at book n of legal) (slice_get book.batches n) refl
   where
-    by : version_of (state_at book n) of ≤ length book.receipts + n → (o : Option Accepted) → slice_get book.batches n ≡ o
+    by : version_of (state_at book n) of ≤ length book.receipts + n → (o : Option Accepted)
+        → slice_get book.batches n ≡ o
         → version_of (state_at book (suc n)) of ≤ length book.receipts + suc n
     by below None e = rw (state_at-past book n e) (omega arith)
     by below (Some batch) e =
@@ -92,7 +99,8 @@ pub version_of-rows_of : (book : Book) (of : Resource) → IsLegal book → vers
 version_of-rows_of book of legal = rw (← state_at-all book) (version_of-state_at book (length book.batches) of legal)
 
 -- each version has a next one before each batch of a legal book
-pub next_versions_at : (book : Book) (n : ℕ) → IsLegal book → n ≤ length book.batches → HaveNextVersions (state_at book n)
+pub next_versions_at : (book : Book) (n : ℕ) → IsLegal book → n ≤ length book.batches
+    → HaveNextVersions (state_at book n)
 next_versions_at book n legal within of =
     let small : version_of (state_at book n) of ≤ length book.receipts + n = version_of-state_at book n of legal in
     omega (arith, legal.small, legal.batches)

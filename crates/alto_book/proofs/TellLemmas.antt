@@ -1,5 +1,6 @@
 -- What the updates graph of a declared resource tells.
-use Rattle.std.proofs.Common.{◌≡◌, ℕ, ◌+◌, ◌-◌, ◌<◌, ◌≤◌, if◌then◌else◌, true, false, take, drop, length, length-drop, Option, Some, None, refl, ap, sym, ◌∙◌, arith}
+use Rattle.std.proofs.Common.{◌≡◌, ℕ, ◌+◌, ◌-◌, ◌<◌, ◌≤◌, if◌then◌else◌, true, false, take, drop, length, length-drop}
+use Rattle.std.proofs.Common.{Option, Some, None, refl, ap, sym, ◌∙◌, arith}
 use Rattle.std.proofs.lemmas.List.{drop-drop}
 use Rattle.std.specs.Prelude.{Bool, not, ◌&&◌, ◌||◌, ◌==◌, List, option_map, nat_lt, is_some, IfSome, IsTrue, slice_get}
 use Rattle.std.specs.List.{flat_map}
@@ -19,7 +20,8 @@ use Rattle.tips_graph.specs.Keys.{key_set}
 use Rattle.tips_graph.proofs.GraphLaws.{first_from, last_from, rows_of_the_push, span_of_the_pushes}
 use Rattle.alto_book.specs.Book.{rows_of}
 use Rattle.alto_book.specs.NumberLaws.{GraphTellsNumbers}
-use Rattle.alto_book.specs.Numbers.{batches_to, first_kept, floor_of, keys_between, origin_of, pushes_of, rows_at, status_at, updates_graph}
+use Rattle.alto_book.specs.Numbers.{batches_to, first_kept, floor_of, keys_between, origin_of, pushes_of, rows_at}
+use Rattle.alto_book.specs.Numbers.{status_at, updates_graph}
 use Rattle.alto_book.proofs.BetweenLemmas.{length-pushes_of}
 use Rattle.alto_book.proofs.GraphLemmas.{floor_below, last-updates_graph}
 use Rattle.alto_book.proofs.MapLemmas.{versioned}
@@ -28,10 +30,12 @@ use Rattle.alto_book.proofs.StateLemmas.{good_rows, good_state}
 use Rattle.alto_book.proofs.TrimLemmas.{slice_get-drop}
 
 -- what a graph keeps lies between its ends
-kept_within : (graph : GraphData) (number : ℕ) → keeps graph number ≡ true → (first_of graph ≤ number) × (number ≤ last_of graph)
+kept_within : (graph : GraphData) (number : ℕ) → keeps graph number ≡ true
+    → (first_of graph ≤ number) × (number ≤ last_of graph)
 kept_within graph number h = (grind (arith, nat_tests), grind (arith, nat_tests))
 
-kept_true : (graph : GraphData) (number : ℕ) → 1 ≤ number → first_of graph ≤ number → number ≤ last_of graph → keeps graph number ≡ true
+kept_true : (graph : GraphData) (number : ℕ) → 1 ≤ number → first_of graph ≤ number → number ≤ last_of graph
+    → keeps graph number ≡ true
 kept_true graph number some low high = grind (arith, nat_tests)
 
 -- an edge that can be had leads on to a number that is kept, from 0 or from one that is
@@ -66,7 +70,8 @@ leads_on first last i j here = by (edges.is_shape i j) onward here
     }
 
 -- an edge that can be had could be while lower numbers were kept
-pub here_lower : (lower first last i j : ℕ) → lower ≤ first → edges.edge_status first last i j ≡ Here → edges.edge_status lower last i j ≡ Here
+pub here_lower : (lower first last i j : ℕ) → lower ≤ first → edges.edge_status first last i j ≡ Here
+    → edges.edge_status lower last i j ≡ Here
 here_lower lower first last i j le here = by (edges.is_shape i j) here
   where
     by : (shape : Bool) → status_by shape first last i j ≡ Here → status_by shape lower last i j ≡ Here
@@ -100,20 +105,27 @@ graph_tells book of legal declared = record {
   reached = last-updates_graph book of legal declared;
   first = first;
   status = status;
-  recommended = λ held. ap (λ n. edges.recommended_edge n (last_of graph) held) first ∙ ap (λ n. edges.recommended_edge (first_kept book of) n held) last;
+  recommended = λ held. ap (λ n. edges.recommended_edge n (last_of graph) held) first
+      ∙ ap (λ n. edges.recommended_edge (first_kept book of) n held) last;
   leads = λ i j here.
-      let edge : LeadsOn (first_kept book of) (version_of (rows_of book) of) i j = leads_on (first_kept book of) (version_of (rows_of book) of) i j here in
+      let edge : LeadsOn (first_kept book of) (version_of (rows_of book) of) i j =
+      leads_on (first_kept book of) (version_of (rows_of book) of) i j here in
       kept_true graph j (omega (arith, edge.onward)) (omega (arith, edge.low, first)) (omega (arith, edge.high, last));
   begins = λ i j low here.
-      let edge : LeadsOn (first_kept book of) (version_of (rows_of book) of) i j = leads_on (first_kept book of) (version_of (rows_of book) of) i j here in
-      kept_true graph i (omega (arith, low)) (omega (arith, edge.from low, first)) (omega (arith, edge.onward, edge.high, last));
+      let edge : LeadsOn (first_kept book of) (version_of (rows_of book) of) i j =
+      leads_on (first_kept book of) (version_of (rows_of book) of) i j here in
+      kept_true graph i (omega (arith, low)) (omega (arith, edge.from low, first))
+      (omega (arith, edge.onward, edge.high, last));
   rows = rows;
   good = λ number. good_state book (batches_to book of number) legal;
   declared = λ number kept.
       let within : (floor_of book of ≤ number) × (number ≤ version_of (rows_of book) of) = kept_now number kept in
-      let it = between book of number number (record { legal = legal; declared = declared; from = within.0; rise = omega arith; upto = within.1 }) in
+      let it = between book of number
+      number (record { legal = legal; declared = declared; from = within.0; rise = omega arith; upto = within.1 }) in
       it.declared (batches_to book of number) (omega arith) it.first.within;
-  snapshot = λ j. ap (λ b. if b then Some (key_set (flat_map (λ (push : Push). push.keys) (take (j - 0) (drop (0 + 1 - first_of graph) graph.kept)))) else None) (no_span graph (status_of graph 0 j));
+  snapshot = λ j. ap (λ b. if b then
+      Some (key_set (flat_map (λ (push : Push). push.keys) (take (j - 0) (drop (0 + 1 - first_of graph) graph.kept))))
+      else None) (no_span graph (status_of graph 0 j));
   step = step;
 }
   where
@@ -151,9 +163,11 @@ graph_tells book of legal declared = record {
     first = first_from window before pushes (omega (arith, last, some)) ∙ omega (arith, counted, floor)
 
     status : (i j : ℕ) → status_of graph i j ≡ status_at book of i j
-    status i j = ap (λ n. edges.edge_status n (last_of graph) i j) first ∙ ap (λ n. edges.edge_status (first_kept book of) n i j) last
+    status i j = ap (λ n. edges.edge_status n (last_of graph) i j) first
+        ∙ ap (λ n. edges.edge_status (first_kept book of) n i j) last
 
-    kept_now : (number : ℕ) → keeps graph number ≡ true → (floor_of book of ≤ number) × (number ≤ version_of (rows_of book) of)
+    kept_now : (number : ℕ) → keeps graph number ≡ true
+        → (floor_of book of ≤ number) × (number ≤ version_of (rows_of book) of)
     kept_now number kept =
         let within : (first_of graph ≤ number) × (number ≤ last_of graph) = kept_within graph number kept in
         (omega (arith, within.0, first), omega (arith, within.1, last))
@@ -170,7 +184,8 @@ graph_tells book of legal declared = record {
     step : (i j : ℕ) → 1 ≤ i → status_at book of i j ≡ Here → span_of graph i j ≡ Some (keys_between book of i j)
     step i j low here =
         let here_now : status_of graph i j ≡ Here = status i j ∙ here in
-        let edge : LeadsOn (first_kept book of) (version_of (rows_of book) of) i j = leads_on (first_kept book of) (version_of (rows_of book) of) i j here in
+        let edge : LeadsOn (first_kept book of) (version_of (rows_of book) of) i j =
+        leads_on (first_kept book of) (version_of (rows_of book) of) i j here in
         let from : first_kept book of ≤ i = edge.from low in
         let test : IsTrue (is_step_here (status_of graph i j) i) = rw here_now (positive i low) in
         let place : past + (i - before) ≡ i + 1 - origin_of book of = omega (arith, from) in
@@ -178,4 +193,10 @@ graph_tells book of legal declared = record {
         ∙ (ap (λ (left : List Push). Some (key_set (flat_map (λ (push : Push). push.keys) (take (j - i) left))))
         (drop-drop (i - before) past (pushes_of book of) ∙ ap (λ n. drop n (pushes_of book of)) place)
         ∙ ap Some (sym (keys_of_pushes book of i j
-        (record { legal = legal; declared = declared; from = omega (arith, from); rise = omega (arith, edge.onward); upto = edge.high }))))
+        (record {
+          legal = legal;
+          declared = declared;
+          from = omega (arith, from);
+          rise = omega (arith, edge.onward);
+          upto = edge.high;
+        }))))

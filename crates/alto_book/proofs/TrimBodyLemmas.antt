@@ -39,10 +39,12 @@ use Rattle.alto_book.proofs.TrimNumberLemmas.{trim_keeps_numbers}
 -- ---- rows that differ by no key
 
 -- maps that differ nowhere have the same operations behind them
-same_on_group : (shape : Shape) (before others later : Face) (places : List Place) → DifferAt shape [] before others → (g : Name)
+same_on_group : (shape : Shape) (before others later : Face) (places : List Place)
+    → DifferAt shape [] before others → (g : Name)
     → on_group others later places g ≡ on_group before later places g
 same_on_group shape before others later places differ g =
-    ap₂ (λ (on : Name → List Operation) (stood : Bool). by_standing g (group_object later g) (flat_map on (touched_members g places)) stood (stands later g))
+    ap₂ (λ (on : Name → List Operation) (stood : Bool). by_standing g (group_object later g)
+    (flat_map on (touched_members g places)) stood (stands later g))
     (fun_ext (λ m. ap (λ old. on_member m old (member_in later g m)) (sym (differ.members g m refl))))
     (sym (differ.groups g refl))
 
@@ -50,13 +52,15 @@ same_on_maps : (shape : Shape) (before others later : Face) (places : List Place
     → maps.operation_form shape others later places ≡ maps.operation_form shape before later places
 unfolding maps.operation_form
 same_on_maps shape before others later places differ =
-    ap (λ (on : Name → List Operation). on_meta shape later places ++ map (under shape.section) (flat_map on (touched_groups places)))
+    ap (λ (on : Name → List Operation). on_meta shape later places ++ map (under shape.section)
+    (flat_map on (touched_groups places)))
     (fun_ext (same_on_group shape before others later places differ))
 
 same_operations : (of : Resource) (before others later : Rows) (keys : List Key) → DifferBy [] before others of
     → operation_form of others later keys ≡ operation_form of before later keys
 same_operations of before others later keys differ =
-    same_on_maps (shape_of of) (face_of of before) (face_of of others) (face_of of later) (map (place_of of) keys) (differ_at of before others [] differ)
+    same_on_maps (shape_of of) (face_of of before) (face_of of others) (face_of of later) (map (place_of of) keys)
+    (differ_at of before others [] differ)
 
 -- what is Ok is one
 one_ok : (outcome : Result Data PatchFault) (a b : Data) → outcome ≡ Ok a → outcome ≡ Ok b → a ≡ b
@@ -67,11 +71,13 @@ unfolding operations_applied
 none_applied d = refl
 
 -- and the same document
-same_document : (of : Resource) (before others : Rows) → DifferBy [] before others of → documents.document of others ≡ documents.document of before
+same_document : (of : Resource) (before others : Rows) → DifferBy [] before others of
+    → documents.document of others ≡ documents.document of before
 same_document of before others differ =
     let none : operation_form of before others [] ≡ [] = (untouched of before others [] refl).1 in
     let applied = step_operates of before others [] differ in
-    sym (one_ok (operations_applied [] (documents.document of before)) (documents.document of before) (documents.document of others)
+    sym (one_ok (operations_applied [] (documents.document of before)) (documents.document of before)
+    (documents.document of others)
     (none_applied (documents.document of before))
     (sym (ap (λ (changes : List Operation). operations_applied changes (documents.document of before)) none) ∙ applied))
 
@@ -94,11 +100,13 @@ trim_keeps_bodies book n of written i j legal le declared here = by (i == 0) ref
 
     -- the rows at a number that is kept are the same, or differ by no key
     ends : (number : ℕ) → first_kept later of ≤ number → number ≤ version_of (rows_of later) of
-        → (rows_at later of number ≡ rows_at book of number) ⊎ DifferBy [] (rows_at book of number) (rows_at later of number) of
+        → (rows_at later of number ≡ rows_at book of number) ⊎ DifferBy [] (rows_at book of number)
+        (rows_at later of number) of
     ends number low high = which (cases_lt (version_of later.base of) number)
       where
         which : (version_of later.base of < number) ⊎ (number ≤ version_of later.base of)
-            → (rows_at later of number ≡ rows_at book of number) ⊎ DifferBy [] (rows_at book of number) (rows_at later of number) of
+            → (rows_at later of number ≡ rows_at book of number) ⊎ DifferBy [] (rows_at book of number)
+            (rows_at later of number) of
         which (inl above) = inl (keeps.rows number above high)
         which (inr at) = inr (keeps.base number low (omega (arith, at, low)))
 
@@ -116,8 +124,10 @@ trim_keeps_bodies book n of written i j legal le declared here = by (i == 0) ref
     from : 1 ≤ i → (rows_at later of i ≡ rows_at book of i) ⊎ DifferBy [] (rows_at book of i) (rows_at later of i) of
         → operation_form of (rows_at later of i) (rows_at book of j) (keys_between book of i j)
         ≡ operation_form of (rows_at book of i) (rows_at book of j) (keys_between book of i j)
-    from some (inl same) = ap (λ (rows : Rows). operation_form of rows (rows_at book of j) (keys_between book of i j)) same
-    from some (inr differ) = same_operations of (rows_at book of i) (rows_at later of i) (rows_at book of j) (keys_between book of i j) differ
+    from some (inl same) = ap (λ (rows : Rows). operation_form of rows (rows_at book of j) (keys_between book of i j))
+        same
+    from some (inr differ) = same_operations of (rows_at book of i) (rows_at later of i) (rows_at book of j)
+        (keys_between book of i j) differ
 
     patches : (one : PatchForm) → 1 ≤ i
         → patch one of (rows_at later of i) (rows_at later of j) (keys_between later of i j)
@@ -125,11 +135,14 @@ trim_keeps_bodies book n of written i j legal le declared here = by (i == 0) ref
     patches form.Merge some =
         ap₂ (λ (rows : Rows) (keys : List Key). merge_patch (merge_form of rows keys)) (onto some) (between some)
     patches form.Operations some =
-        ap₂ (λ (rows : Rows) (keys : List Key). operations (operation_form of (rows_at later of i) rows keys)) (onto some) (between some)
+        ap₂ (λ (rows : Rows) (keys : List Key). operations (operation_form of (rows_at later of i) rows keys))
+        (onto some) (between some)
         ∙ ap operations (from some (ends i (leads.from some) (omega (arith, leads.onward, leads.high))))
 
     by : (b : Bool) → (i == 0) ≡ b
-        → (if b then document (document_at later of j) else patch written of (rows_at later of i) (rows_at later of j) (keys_between later of i j))
-        ≡ (if b then document (document_at book of j) else patch written of (rows_at book of i) (rows_at book of j) (keys_between book of i j))
+        → (if b then document (document_at later of j) else patch written of (rows_at later of i) (rows_at later of j)
+        (keys_between later of i j))
+        ≡ (if b then document (document_at book of j) else patch written of (rows_at book of i) (rows_at book of j)
+        (keys_between book of i j))
     by true e = ap document (whole (ends j leads.low leads.high))
     by false e = patches written (from_one i e)

@@ -2,7 +2,8 @@
 use Rattle.std.proofs.Common.{◌≡◌, refl, ap, sym, ◌∙◌, arith, suc, zero}
 use Rattle.std.proofs.Math.Seq.{take-add}
 use Rattle.std.proofs.lemmas.Grind.{flat_map-append}
-use Rattle.std.proofs.lemmas.List.{append_assoc, length-append, length-drop, length-map, length-take-le, map-append, take-append-drop}
+use Rattle.std.proofs.lemmas.List.{append_assoc, length-append, length-drop, length-map, length-take-le, map-append}
+use Rattle.std.proofs.lemmas.List.{take-append-drop}
 use Rattle.std.specs.Prelude.{ℕ, ◌+◌, ◌≤◌, List, [], ◌∷◌, ◌++◌, length, map, take, drop, slice_get}
 use Rattle.alto_rows.proofs.WriteLemmas.{after-append}
 use Rattle.alto_rows.specs.Accepted.{Accepted}
@@ -38,13 +39,16 @@ pub all_kept-trimmed : (book : Book) (n : ℕ) → all_kept (trimmed book n) ≡
 all_kept-trimmed book n =
     append_assoc book.receipts (map kept_of (take n book.batches)) (map kept_of (drop n book.batches))
     ∙ ap (λ (kept : List Kept). book.receipts ++ kept)
-    (sym (map-append kept_of (take n book.batches) (drop n book.batches)) ∙ ap (map kept_of) (take-append-drop n book.batches))
+    (sym (map-append kept_of (take n book.batches) (drop n book.batches))
+    ∙ ap (map kept_of) (take-append-drop n book.batches))
 
 -- so many batches led to the new base
-pub length-receipts-trimmed : (book : Book) (n : ℕ) → n ≤ length book.batches → length (trimmed book n).receipts ≡ length book.receipts + n
+pub length-receipts-trimmed : (book : Book) (n : ℕ) → n ≤ length book.batches
+    → length (trimmed book n).receipts ≡ length book.receipts + n
 length-receipts-trimmed book n le =
     length-append book.receipts (map kept_of (take n book.batches))
-    ∙ ap (λ (k : ℕ). length book.receipts + k) (length-map (take n book.batches) kept_of ∙ length-take-le n book.batches le)
+    ∙ ap (λ (k : ℕ). length book.receipts + k) (length-map (take n book.batches) kept_of
+    ∙ length-take-le n book.batches le)
 
 -- a base that moves on changes no rows, no number and no receipt
 pub trim_changes_nothing : TrimChangesNothing
@@ -67,11 +71,13 @@ slice_get-drop (x ∷ xs) (suc n) m =
     slice_get-drop xs n m ∙ ap (slice_get (x ∷ xs)) next
 
 -- there are no more writes behind the first n batches
-length-writes_in-drop : (batches : List Accepted) (n : ℕ) → length (writes_in (drop n batches)) ≤ length (writes_in batches)
+length-writes_in-drop : (batches : List Accepted) (n : ℕ)
+    → length (writes_in (drop n batches)) ≤ length (writes_in batches)
 length-writes_in-drop batches n =
     let whole : length (writes_in batches) ≡ length (writes_in (take n batches)) + length (writes_in (drop n batches)) =
     ap (λ (some : List Accepted). length (writes_in some)) (sym (take-append-drop n batches))
-    ∙ (ap length (writes_in-append (take n batches) (drop n batches)) ∙ length-append (writes_in (take n batches)) (writes_in (drop n batches))) in
+    ∙ (ap length (writes_in-append (take n batches) (drop n batches))
+    ∙ length-append (writes_in (take n batches)) (writes_in (drop n batches))) in
     omega arith
 
 -- a legal book stays legal as its base moves on
@@ -83,7 +89,8 @@ trim_keeps_legal book n legal le small = record {
     versions = λ of. rw (length-receipts-trimmed book n le) (version_of-state_at book n of legal);
   };
   small = rw (length-receipts-trimmed book n le) small;
-  each = λ m batch there. rw (state_at-trimmed book n m) (legal.each (n + m) batch (sym (slice_get-drop book.batches n m) ∙ there));
+  each = λ m batch there. rw (state_at-trimmed book n m)
+      (legal.each (n + m) batch (sym (slice_get-drop book.batches n m) ∙ there));
   ids = rw (all_kept-trimmed book n) legal.ids;
   moments = rw (all_kept-trimmed book n) legal.moments;
   batches = rw (length-drop n book.batches) (omega (arith, legal.batches));

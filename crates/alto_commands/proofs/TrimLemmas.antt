@@ -14,7 +14,8 @@ use Rattle.alto_commands.specs.Stores.{open_report}
 use Rattle.alto_commands.specs.Trim.{IsTrimmed, Moves, Trims}
 
 -- a desk's answer tells the book
-pub moves_so : (r : Result ℕ TrimFault) (keep : ℕ) (book later : Book) → IfOk r (λ number. number ≡ trim_number book keep)
+pub moves_so : (r : Result ℕ TrimFault) (keep : ℕ) (book later : Book)
+    → IfOk r (λ number. number ≡ trim_number book keep)
     → OnOk r (later ≡ trim book (trim_number book keep)) → OnErr r (later ≡ book) → Moves keep book r later
 moves_so (Ok number) keep book later told gained stayed = (told, gained ∙ ap (trim book) (sym told))
 moves_so (Err why) keep book later told gained stayed = stayed

@@ -18,7 +18,8 @@ use Rattle.alto_book.specs.declared.fault.EditFault.TheVariants as fault
 
 -- the answer to an import whose id has a batch
 answer_to_known : (book : Book) (import : Import) (moment : ℕ) (numbered : ℕ × Kept)
-    → Some numbered ≡ known (all_kept book) import.id → (accept book import moment).answer ≡ answer_known numbered import
+    → Some numbered ≡ known (all_kept book) import.id
+    → (accept book import moment).answer ≡ answer_known numbered import
 unfolding accept
 answer_to_known book import moment numbered h = rw (← h) refl
 

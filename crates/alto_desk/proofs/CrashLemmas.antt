@@ -6,7 +6,8 @@ use Rattle.alto_book.specs.Book.{Book, number_of, trimmed}
 use Rattle.alto_book.specs.Laws.{IsSameBook}
 use Rattle.alto_book.specs.Legal.{IsLegal}
 use Rattle.alto_book.proofs.TrimLemmas.{trim_changes_nothing}
-use Rattle.alto_keeper.specs.Stored.{StoredData, IsNext, IsKeptOrAdded, IsKeptOrRebased, LeavesFrom, LeavesOnly, Stays, with_row, rebased}
+use Rattle.alto_keeper.specs.Stored.{StoredData, IsNext, IsKeptOrAdded, IsKeptOrRebased, LeavesFrom, LeavesOnly, Stays}
+use Rattle.alto_keeper.specs.Stored.{with_row, rebased}
 use Rattle.alto_keeper.specs.declared.keeper.Keeper.{Ghosts}
 use Rattle.base_code.specs.Pieces.{base_pieces}
 use Rattle.batch_code.specs.Spelling.{batch_bytes}

@@ -1,5 +1,6 @@
 -- What a ledger keeps, at its base and after a batch.
-use Rattle.std.proofs.Common.{◌≡◌, ℕ, ◌+◌, ◌≤◌, ◌<◌, List, [], ◌∷◌, ◌++◌, length, map, Some, None, refl, ap, sym, ◌∙◌, subst, suc, zero, arith, length-append}
+use Rattle.std.proofs.Common.{◌≡◌, ℕ, ◌+◌, ◌≤◌, ◌<◌, List, [], ◌∷◌, ◌++◌, length, map, Some, None, refl, ap, sym, ◌∙◌}
+use Rattle.std.proofs.Common.{subst, suc, zero, arith, length-append}
 use Rattle.std.proofs.lemmas.List.{append-nil, length-map}
 use Rattle.std.proofs.lemmas.Option.{same_Some}
 use Rattle.std.specs.Prelude.{◌^◌, Result, Ok, Err, OnErr, OnOk, slice_get}
@@ -45,16 +46,19 @@ window_before key.Epoch h = absurd (omega arith)
 window_before key.Window h = absurd (omega arith)
 window_before _ h = refl
 
-all_behind : (low : Key) → ((at : Key) → 3 ≤ kind_of at → key_cmp low at ≡ Less) → (rows : Rows) → AllByRecursion (λ row. IsStored (write_of row)) rows
+all_behind : (low : Key) → ((at : Key) → 3 ≤ kind_of at → key_cmp low at ≡ Less) → (rows : Rows)
+    → AllByRecursion (λ row. IsStored (write_of row)) rows
     → ArePast low rows
 all_behind low before [] all = tt
 all_behind low before (row ∷ rows) all = (before row.0 all.0.stored, all_behind low before rows all.1)
 
 -- so rows that can be stored stand behind those of a new book
-pub sorted_behind : (epoch : List ℕ) (window : ℕ) (rows : Rows) → AreStored rows → AreSorted (opening_rows epoch window ++ rows)
+pub sorted_behind : (epoch : List ℕ) (window : ℕ) (rows : Rows) → AreStored rows
+    → AreSorted (opening_rows epoch window ++ rows)
 unfolding key_cmp
 sorted_behind epoch window rows stored =
-    sorted_more (key.Epoch, value.Text epoch) ((key.Window, value.Num window) ∷ rows) (refl, all_behind key.Epoch epoch_before rows all)
+    sorted_more (key.Epoch, value.Text epoch) ((key.Window, value.Num window) ∷ rows)
+    (refl, all_behind key.Epoch epoch_before rows all)
     (sorted_more (key.Window, value.Num window) rows (all_behind key.Window window_before rows all) stored.sorted)
   where
     all : AllByRecursion (λ row. IsStored (write_of row)) rows
@@ -68,7 +72,8 @@ ids_kept [] = refl
 ids_kept (kept ∷ receipts) = ap (λ (ids : List (List ℕ)). kept.id ∷ ids) (ids_kept receipts)
 
 -- and of a book without batches behind its base they are all
-pub all_ids : (base : Rows) (receipts : List KeptData) → map (λ (kept : Kept). kept.id) (all_kept (book_kept base receipts [])) ≡ ids_of receipts
+pub all_ids : (base : Rows) (receipts : List KeptData)
+    → map (λ (kept : Kept). kept.id) (all_kept (book_kept base receipts [])) ≡ ids_of receipts
 all_ids base receipts = ap (map (λ (kept : Kept). kept.id)) (append-nil (map receipt_of receipts)) ∙ ids_kept receipts
 
 -- what a book keeps at a place is of the receipt at that place
@@ -77,9 +82,11 @@ record HasReceipt (receipts : List KeptData) (n : ℕ) (kept : Kept) : Type 0 wh
   there : slice_get receipts n ≡ Some receipt
   is : receipt_of receipt ≡ kept
 
-receipt_at : (receipts : List KeptData) (n : ℕ) (kept : Kept) → slice_get (map receipt_of receipts) n ≡ Some kept → HasReceipt receipts n kept
+receipt_at : (receipts : List KeptData) (n : ℕ) (kept : Kept) → slice_get (map receipt_of receipts) n ≡ Some kept
+    → HasReceipt receipts n kept
 receipt_at [] n kept h = cc
-receipt_at (receipt ∷ receipts) zero kept h = record { receipt = receipt; there = refl; is = same_Some (receipt_of receipt) kept h }
+receipt_at (receipt ∷ receipts) zero kept h =
+    record { receipt = receipt; there = refl; is = same_Some (receipt_of receipt) kept h }
 receipt_at (receipt ∷ receipts) (suc n) kept h =
     let below : HasReceipt receipts n kept = receipt_at receipts n kept h in
     record { receipt = below.receipt; there = below.there; is = below.is }
@@ -92,7 +99,8 @@ moments_kept receipts falls m n earlier later le h g =
     rw (← a.is, ← b.is) (falls m n a.receipt b.receipt le a.there b.there)
 
 -- a book whose base keeps its rule is legal
-pub legal_base : (base : Rows) (receipts : List KeptData) → KeepsRule base receipts → length receipts < 2 ^ 62 → IsLegal (book_kept base receipts [])
+pub legal_base : (base : Rows) (receipts : List KeptData) → KeepsRule base receipts → length receipts < 2 ^ 62
+    → IsLegal (book_kept base receipts [])
 legal_base base receipts keeps small = record {
   base = record {
     good = keeps.base.good;

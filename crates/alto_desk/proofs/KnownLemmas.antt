@@ -9,20 +9,24 @@ use Rattle.alto_book.specs.Import.{Import}
 use Rattle.alto_desk.specs.Opening.{IsNew}
 
 -- an import whose id is answered is known, with this answer, and one whose id isn't is new
-pub record IsKnown (kept : List Kept) (import : Import) {A : Type 0} (answer : A) (answered : ℕ × Kept → A) : Type 0 where
+pub record IsKnown (kept : List Kept) (import : Import) {A : Type 0} (answer : A) (answered : ℕ × Kept
+    → A) : Type 0 where
   pub numbered : ℕ × Kept
   pub is : Some numbered ≡ known kept import.id
   pub same : answer ≡ answered numbered
 
-pub known_of : {A : Type 0} (kept : List Kept) (import : Import) (answer : A) (answered : ℕ × Kept → A) → Some answer ≡ option_map answered (known kept import.id)
+pub known_of : {A : Type 0} (kept : List Kept) (import : Import) (answer : A) (answered : ℕ × Kept → A)
+    → Some answer ≡ option_map answered (known kept import.id)
     → IsKnown kept import answer answered
 known_of kept import answer answered h = by (known kept import.id) refl h
   where
-    by : (o : Option (ℕ × Kept)) → known kept import.id ≡ o → Some answer ≡ option_map answered o → IsKnown kept import answer answered
+    by : (o : Option (ℕ × Kept)) → known kept import.id ≡ o → Some answer ≡ option_map answered o
+        → IsKnown kept import answer answered
     by None e g = cc
     by (Some numbered) e g = record { numbered = numbered; is = sym e; same = cc }
 
-pub new_of : {A : Type 0} (kept : List Kept) (import : Import) (answered : ℕ × Kept → A) → None ≡ option_map answered (known kept import.id)
+pub new_of : {A : Type 0} (kept : List Kept) (import : Import) (answered : ℕ × Kept → A)
+    → None ≡ option_map answered (known kept import.id)
     → known kept import.id ≡ None
 new_of kept import answered h = by (known kept import.id) h
   where
@@ -32,7 +36,8 @@ new_of kept import answered h = by (known kept import.id) h
 
 -- ---- the last moment
 
-pub last_both : (first second : List Kept) → last_moment (first ++ second) ≡ fold (λ _ one. one.moment) (last_moment first) second
+pub last_both : (first second : List Kept)
+    → last_moment (first ++ second) ≡ fold (λ _ one. one.moment) (last_moment first) second
 last_both first second = fold-append (λ (_ : ℕ) (one : Kept). one.moment) 0 first second
 
 -- ---- new ids

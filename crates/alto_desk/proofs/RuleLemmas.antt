@@ -80,7 +80,8 @@ pub fit_of_stored : (write : Write) → IsStored write → FitsBatch write
 fit_of_stored write stored = fit_by_key write.key write.value stored.stored stored.is_key stored.takes
 
 -- a batch that breaks no rule behind a legal book
-pub legal_more : (book : Book) (batch : Accepted) → IsLegal book → All FitsBatch batch.writes → IsNew book batch → IsLater book batch
+pub legal_more : (book : Book) (batch : Accepted) → IsLegal book → All FitsBatch batch.writes → IsNew book batch
+    → IsLater book batch
     → KeepsRules (rows_of book) batch.writes (past_of book) → IsLegal (with_batch book batch)
 legal_more book batch legal fit new later keeps =
     let few : length book.batches + 1 ≤ 4096 = omega (arith, keeps.batches) in
@@ -103,10 +104,12 @@ pub last_few : (book : Book) (batch : Accepted) → IsLegal (with_batch book bat
 last_few book batch legal = (last_follows book batch legal).few
 
 pub last_stored : (book : Book) (batch : Accepted) → IsLegal (with_batch book batch) → All IsStored batch.writes
-last_stored book batch legal = All-weaker FitsBatch IsStored stored_of_fit batch.writes (last_follows book batch legal).fit
+last_stored book batch legal =
+    All-weaker FitsBatch IsStored stored_of_fit batch.writes (last_follows book batch legal).fit
 
 -- the same of a batch that was read
-pub legal_stored : (book : Book) (batch : Accepted) → IsLegal book → All IsStored batch.writes → IsNew book batch → IsLater book batch
+pub legal_stored : (book : Book) (batch : Accepted) → IsLegal book → All IsStored batch.writes → IsNew book batch
+    → IsLater book batch
     → KeepsRules (rows_of book) batch.writes (past_of book) → IsLegal (with_batch book batch)
 legal_stored book batch legal stored new later keeps =
     legal_more book batch legal (All-weaker IsStored FitsBatch fit_of_stored batch.writes stored) new later keeps

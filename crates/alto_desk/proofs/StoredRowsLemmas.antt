@@ -42,14 +42,16 @@ takes_put _ v takes = takes
 row_fits : (rows : Rows) (at : Key) (v : Value) → AreGood rows → IsRow rows at v → Fits at v
 row_fits rows at v good row = rw (value_of_row rows at v good.sorted row) at (good.fit at)
 
-each_fits : (rows front back : Rows) → AreGood rows → rows ≡ front ++ back → AllByRecursion (λ row. Fits row.0 row.1) back
+each_fits : (rows front back : Rows) → AreGood rows → rows ≡ front ++ back
+    → AllByRecursion (λ row. Fits row.0 row.1) back
 each_fits rows front [] good whole = tt
 each_fits rows front (row ∷ back) good whole = (
   row_fits rows row.0 row.1 good (record { front = front; back = back; whole = whole }),
   each_fits rows (front ++ row ∷ []) back good (whole ∙ sym (append_assoc front (row ∷ []) back)),
 )
 
-each_stored : (rows : Rows) → AllByRecursion (λ row. Fits row.0 row.1) rows → AllByRecursion (λ row. IsStored (write_of row)) (behind rows)
+each_stored : (rows : Rows) → AllByRecursion (λ row. Fits row.0 row.1) rows
+    → AllByRecursion (λ row. IsStored (write_of row)) (behind rows)
 each_stored [] fits = tt
 each_stored (row ∷ rows) fits = by (is_opening row.0) refl (each_stored rows fits.1)
   where
@@ -65,7 +67,8 @@ keys_of-behind (row ∷ rows) = by (is_opening row.0) (keys_of-behind rows)
   where
     by : (b : Bool) → keys_of (behind rows) ≡ filter (λ at. not (is_opening at)) (keys_of rows)
         → keys_of (cond (not b) (row ∷ behind rows) (behind rows))
-        ≡ cond (not b) (row.0 ∷ filter (λ at. not (is_opening at)) (keys_of rows)) (filter (λ at. not (is_opening at)) (keys_of rows))
+        ≡ cond (not b) (row.0 ∷ filter (λ at. not (is_opening at)) (keys_of rows))
+        (filter (λ at. not (is_opening at)) (keys_of rows))
     by true below = below
     by false below = ap (λ (keys : List Key). row.0 ∷ keys) below
 
@@ -77,13 +80,19 @@ sorted_behind_opening rows sorted =
 pub good_stored : (rows : Rows) → AreGood rows → AreStored (behind rows)
 good_stored rows good = record {
   sorted = sorted_behind_opening rows good.sorted;
-  each = All-from_recursion (λ (row : Key × Value). IsStored (write_of row)) (behind rows) (each_stored rows (each_fits rows [] rows good refl));
+  each = All-from_recursion (λ (row : Key × Value). IsStored (write_of row)) (behind rows)
+      (each_stored rows (each_fits rows [] rows good refl));
 }
 
 -- they are no more
 pub few_behind : (rows : Rows) (most : ℕ) → length rows ≤ most → length (behind rows) ≤ most
 few_behind rows most few =
-    omega (arith, few, length-filter (λ (row : Key × Value). not (is_opening row.0)) rows, count_by-le-length (λ (row : Key × Value). not (is_opening row.0)) rows)
+    omega (
+      arith,
+      few,
+      length-filter (λ (row : Key × Value). not (is_opening row.0)) rows,
+      count_by-le-length (λ (row : Key × Value). not (is_opening row.0)) rows,
+    )
 
 -- ---- they are those behind the epoch and the window
 
@@ -95,7 +104,8 @@ behind_window _ h = refl
 
 all_behind : (rows : Rows) → ArePast key.Window rows → behind rows ≡ rows
 all_behind [] past = refl
-all_behind (row ∷ rows) past = rw (behind_window row.0 past.0) (ap (λ (more : Rows). row ∷ more) (all_behind rows past.1))
+all_behind (row ∷ rows) past =
+    rw (behind_window row.0 past.0) (ap (λ (more : Rows). row ∷ more) (all_behind rows past.1))
 
 pub behind-opening : (epoch : List ℕ) (window : ℕ) (rows : Rows) → AreSorted (opening_rows epoch window ++ rows)
     → behind (opening_rows epoch window ++ rows) ≡ rows
@@ -107,12 +117,14 @@ behind-opening epoch window rows sorted =
 -- ---- rows that are gone through
 
 -- the rows that are there and those that a base stores of the rest, with one row more
-pub behind_next : (stored next rest more rows : Rows) (row : Key × Value) → stored ++ behind rest ≡ behind rows → rest ≡ row ∷ more
+pub behind_next : (stored next rest more rows : Rows) (row : Key × Value) → stored ++ behind rest ≡ behind rows
+    → rest ≡ row ∷ more
     → next ≡ stored ++ behind (row ∷ []) → next ++ behind more ≡ behind rows
 behind_next stored next rest more rows row so_far step pushed =
     ap (λ (all : Rows). all ++ behind more) pushed
     ∙ (append_assoc stored (behind (row ∷ [])) (behind more)
-    ∙ (ap (λ (all : Rows). stored ++ all) (sym (filter-append (λ (row : Key × Value). not (is_opening row.0)) (row ∷ []) more))
+    ∙ (ap (λ (all : Rows). stored ++ all)
+    (sym (filter-append (λ (row : Key × Value). not (is_opening row.0)) (row ∷ []) more))
     ∙ (ap (λ (all : Rows). stored ++ behind all) (sym step) ∙ so_far)))
 
 -- ---- batches leave the epoch and the window
@@ -122,29 +134,36 @@ with_behind : (first : Key × Value) (rows : Rows) (at : Key) (v : Option Value)
 with_behind first rows at None h = rw h refl
 with_behind first rows at (Some v) h = rw h refl
 
-after_behind : (first : Key × Value) (rows : Rows) (writes : List Write) → AllByRecursion (λ write. key_cmp write.key first.0 ≡ Greater) writes
+after_behind : (first : Key × Value) (rows : Rows) (writes : List Write)
+    → AllByRecursion (λ write. key_cmp write.key first.0 ≡ Greater) writes
     → after (first ∷ rows) writes ≡ first ∷ after rows writes
 after_behind first rows [] all = refl
 after_behind first rows (write ∷ writes) all =
     ap (λ (more : Rows). after more writes) (with_behind first rows write.key write.value all.0)
     ∙ after_behind first (with_value rows write.key write.value) writes all.1
 
-behind_first : (low : Key) → ((at : Key) → 3 ≤ kind_of at → key_cmp low at ≡ Less) → (writes : List Write) → AllByRecursion IsStored writes
+behind_first : (low : Key) → ((at : Key) → 3 ≤ kind_of at → key_cmp low at ≡ Less) → (writes : List Write)
+    → AllByRecursion IsStored writes
     → AllByRecursion (λ write. key_cmp write.key low ≡ Greater) writes
 behind_first low before [] all = tt
-behind_first low before (write ∷ writes) all = (less_back low write.key (before write.key all.0.stored), behind_first low before writes all.1)
+behind_first low before (write ∷ writes) all =
+    (less_back low write.key (before write.key all.0.stored), behind_first low before writes all.1)
 
 all_writes : (batches : List Accepted) → AllByRecursion IsStorable batches → All IsStored (writes_in batches)
 all_writes [] all = All-from_recursion IsStored [] tt
-all_writes (batch ∷ batches) all = All-append IsStored batch.writes (writes_in batches) all.0.writes (all_writes batches all.1)
+all_writes (batch ∷ batches) all =
+    All-append IsStored batch.writes (writes_in batches) all.0.writes (all_writes batches all.1)
 
 -- so their writes change the rows behind them alone
 pub after_opening : (epoch : List ℕ) (window : ℕ) (rows : Rows) (batches : List Accepted) → All IsStorable batches
-    → after (opening_rows epoch window ++ rows) (writes_in batches) ≡ opening_rows epoch window ++ after rows (writes_in batches)
+    → after (opening_rows epoch window ++ rows) (writes_in batches) ≡ opening_rows epoch window
+    ++ after rows (writes_in batches)
 after_opening epoch window rows batches storable =
     let first : Key × Value = (key.Epoch, value.Text epoch) in
     let second : Key × Value = (key.Window, value.Num window) in
     let writes = writes_in batches in
-    let all = recursion_from_All IsStored writes (all_writes batches (recursion_from_All IsStorable batches storable)) in
+    let all = recursion_from_All IsStored
+    writes (all_writes batches (recursion_from_All IsStorable batches storable)) in
     after_behind first (second ∷ rows) writes (behind_first key.Epoch epoch_before writes all)
-    ∙ ap (λ (more : Rows). first ∷ more) (after_behind second rows writes (behind_first key.Window window_before writes all))
+    ∙ ap (λ (more : Rows). first ∷ more)
+    (after_behind second rows writes (behind_first key.Window window_before writes all))

@@ -1,5 +1,6 @@
 -- Records whose base takes in batches stand for the book whose base has moved on.
-use Rattle.std.proofs.Common.{◌≡◌, ℕ, zero, suc, ◌+◌, ◌-◌, ◌≤◌, ◌<◌, pos, List, [], ◌∷◌, ◌++◌, length, map, All, refl, ap, sym, ◌∙◌, subst, arith}
+use Rattle.std.proofs.Common.{◌≡◌, ℕ, zero, suc, ◌+◌, ◌-◌, ◌≤◌, ◌<◌, pos, List, [], ◌∷◌, ◌++◌, length, map, All, refl}
+use Rattle.std.proofs.Common.{ap, sym, ◌∙◌, subst, arith}
 use Rattle.std.proofs.lemmas.Bool.Decides.{nat_tests}
 use Rattle.std.proofs.lemmas.Int.{ints}
 use Rattle.std.specs.Prelude.{◌^◌, Bool, true, false, cond, not, filter, take, drop}
@@ -25,14 +26,17 @@ use Rattle.alto_desk.proofs.StoredRowsLemmas.{after_opening, behind, behind-open
 -- ---- the rows of the records
 
 -- whether a number is among 1 to another
-taken_in : (upto n : ℕ) (bytes : List ℕ) → 1 ≤ n → n ≤ upto → is_taken_in (pos upto) (record { n = pos n; bytes = bytes }) ≡ true
+taken_in : (upto n : ℕ) (bytes : List ℕ) → 1 ≤ n → n ≤ upto
+    → is_taken_in (pos upto) (record { n = pos n; bytes = bytes }) ≡ true
 taken_in upto n bytes low high = grind (arith, ints, nat_tests)
 
-left_behind : (upto n : ℕ) (bytes : List ℕ) → upto < n → is_taken_in (pos upto) (record { n = pos n; bytes = bytes }) ≡ false
+left_behind : (upto n : ℕ) (bytes : List ℕ) → upto < n
+    → is_taken_in (pos upto) (record { n = pos n; bytes = bytes }) ≡ false
 left_behind upto n bytes past = grind (arith, ints, nat_tests)
 
 -- the rows with numbers above it all stay
-all_stay : (upto k : ℕ) (texts : List (List ℕ)) → upto < k → filter (λ row. not (is_taken_in (pos upto) row)) (numbered k texts) ≡ numbered k texts
+all_stay : (upto k : ℕ) (texts : List (List ℕ)) → upto < k
+    → filter (λ row. not (is_taken_in (pos upto) row)) (numbered k texts) ≡ numbered k texts
 all_stay upto k [] past = refl
 all_stay upto k (text ∷ texts) past =
     let row : RowData = record { n = pos k; bytes = text } in
@@ -49,7 +53,8 @@ first_go k zero upto texts same =
 first_go k (suc n) upto [] same = refl
 first_go k (suc n) upto (text ∷ texts) same =
     let row : RowData = record { n = pos (k + 1); bytes = text } in
-    let rest : List RowData = filter (λ (row : RowData). not (is_taken_in (pos upto) row)) (numbered (k + 1 + 1) texts) in
+    let rest : List RowData = filter (λ (row : RowData). not (is_taken_in (pos upto) row))
+    (numbered (k + 1 + 1) texts) in
     ap (λ (b : Bool). cond (not b) (row ∷ rest) rest) (taken_in upto (k + 1) text (omega arith) (omega (arith, same)))
     ∙ first_go (k + 1) n upto texts (omega (arith, same))
 
@@ -63,12 +68,15 @@ pub data_back : (receipts : List KeptData) → map kept_data (map receipt_of rec
 data_back [] = refl
 data_back (one ∷ receipts) = ap (λ (more : List KeptData). one ∷ more) (data_back receipts)
 
-batches_kept : (batches : List Accepted) → AllByRecursion IsStorable batches → AllByRecursion IsKept (map kept_data (map kept_of batches))
+batches_kept : (batches : List Accepted) → AllByRecursion IsStorable batches
+    → AllByRecursion IsKept (map kept_data (map kept_of batches))
 batches_kept [] all = tt
-batches_kept (batch ∷ batches) all = (record { id = all.0.id; digest = all.0.digest; moment = all.0.moment }, batches_kept batches all.1)
+batches_kept (batch ∷ batches) all =
+    (record { id = all.0.id; digest = all.0.digest; moment = all.0.moment }, batches_kept batches all.1)
 
 -- a base that takes in batches can be stored where the base and the batches could
-is_base_trimmed : (stored : StoredData) (book : Book) (n : ℕ) → IsLegal book → StoredAs stored book → 1 ≤ length book.receipts + n → n ≤ length book.batches
+is_base_trimmed : (stored : StoredData) (book : Book) (n : ℕ) → IsLegal book → StoredAs stored book
+    → 1 ≤ length book.receipts + n → n ≤ length book.batches
     → IsBase (base_of (trimmed book n))
 is_base_trimmed stored book n legal stands some within = record {
   most = omega (arith, number, legal.small, legal.batches, within);
@@ -95,14 +103,17 @@ is_base_trimmed stored book n legal stands some within = record {
 
     since : All IsKept taken
     since =
-        let batches = recursion_from_All IsStorable (take n book.batches) (All-take IsStorable n book.batches stands.storable) in
+        let batches = recursion_from_All IsStorable (take n book.batches)
+        (All-take IsStorable n book.batches stands.storable) in
         All-from_recursion IsKept taken (batches_kept (take n book.batches) batches)
 
 -- ---- what is stored
 
 -- records whose base takes in batches stand for the book whose base has moved on
-pub stored_trimmed : (stored : StoredData) (book : Book) (n : ℕ) → IsLegal book → StoredAs stored book → 1 ≤ length book.receipts + n → n ≤ length book.batches
-    → StoredAs (rebased (base_pieces (base_of (trimmed book n))) (pos (length book.receipts + n)) stored) (trimmed book n)
+pub stored_trimmed : (stored : StoredData) (book : Book) (n : ℕ) → IsLegal book → StoredAs stored book
+    → 1 ≤ length book.receipts + n → n ≤ length book.batches
+    → StoredAs (rebased (base_pieces (base_of (trimmed book n))) (pos (length book.receipts + n)) stored)
+    (trimmed book n)
 stored_trimmed stored book n legal stands some within = record {
   epoch = stands.epoch;
   window = stands.window;
@@ -126,18 +137,24 @@ stored_trimmed stored book n legal stands some within = record {
     parts : state_at book n ≡ opening ++ later
     parts =
         ap (λ (b : Book). after b.base (writes_in taken)) stands.began
-        ∙ after_opening stands.epoch stands.window stands.base.rows taken (All-take IsStorable n book.batches stands.storable)
+        ∙ after_opening stands.epoch stands.window stands.base.rows
+        taken (All-take IsStorable n book.batches stands.storable)
 
     split : state_at book n ≡ opening ++ behind (state_at book n)
     split =
         let sorted = subst AreSorted parts (good_state book n legal).sorted in
-        parts ∙ ap (λ (more : Rows). opening ++ more) (sym (ap behind parts ∙ behind-opening stands.epoch stands.window later sorted))
+        parts ∙ ap (λ (more : Rows). opening ++ more)
+        (sym (ap behind parts ∙ behind-opening stands.epoch stands.window later sorted))
 
     began : trimmed book n ≡ book_from stands.epoch stands.window (base_of (trimmed book n)) (drop n book.batches)
     began =
         let kept = (trimmed book n).receipts in
         ap (λ (all : Rows). record { base = all; receipts = kept; batches = drop n book.batches }) split
-        ∙ ap (λ (receipts : List Kept). record { base = opening ++ behind (state_at book n); receipts = receipts; batches = drop n book.batches })
+        ∙ ap (λ (receipts : List Kept). record {
+          base = opening ++ behind (state_at book n);
+          receipts = receipts;
+          batches = drop n book.batches;
+        })
         (sym (receipts_back kept))
 
     texts : List (List ℕ)
@@ -145,12 +162,14 @@ stored_trimmed stored book n legal stands some within = record {
 
     before : stands.base.b ≡ length book.receipts
     before =
-        sym stands.is_base.each ∙ (sym (length-map stands.base.receipts receipt_of) ∙ sym (ap (λ (b : Book). length b.receipts) stands.began))
+        sym stands.is_base.each ∙ (sym (length-map stands.base.receipts receipt_of)
+        ∙ sym (ap (λ (b : Book). length b.receipts) stands.began))
 
     rows : filter (λ row. not (is_taken_in (pos (length book.receipts + n)) row)) (numbered (stands.base.b + 1) texts)
         ≡ numbered (length (trimmed book n).receipts + 1) (map batch_bytes (drop n book.batches))
     rows =
-        ap (λ (b : ℕ). filter (λ (row : RowData). not (is_taken_in (pos (length book.receipts + n)) row)) (numbered (b + 1) texts)) before
+        ap (λ (b : ℕ). filter (λ (row : RowData). not (is_taken_in (pos (length book.receipts + n)) row))
+        (numbered (b + 1) texts)) before
         ∙ (first_go (length book.receipts) n (length book.receipts + n) texts refl
         ∙ (ap (λ (number : ℕ). numbered (number + 1) (drop n texts)) (sym (length-receipts-trimmed book n within))
         ∙ ap (numbered (length (trimmed book n).receipts + 1)) (drop-map batch_bytes n book.batches)))
@@ -165,9 +184,11 @@ stored_trimmed stored book n legal stands some within = record {
     }
 
 -- what is held stands for the book whose base has moved on, once the keeper holds it so
-pub backs_trimmed : (holds later : StoredData → Type 0) (book : Book) (n number : ℕ) (pieces : List (List ℕ)) → IsLegal book → 1 ≤ length book.receipts + n
+pub backs_trimmed : (holds later : StoredData → Type 0) (book : Book) (n number : ℕ) (pieces : List (List ℕ))
+    → IsLegal book → 1 ≤ length book.receipts + n
     → n ≤ length book.batches → number ≡ length book.receipts + n → pieces ≡ base_pieces (base_of (trimmed book n))
-    → ((stored : StoredData) → holds stored → later (rebased pieces (pos number) stored)) → Backs holds book → Backs later (trimmed book n)
+    → ((stored : StoredData) → holds stored → later (rebased pieces (pos number) stored)) → Backs holds book
+    → Backs later (trimmed book n)
 backs_trimmed holds later book n number pieces legal some within count spelled keeps (stored, held, stands) =
     let keeps' = rw (count, spelled) at keeps in (
       rebased (base_pieces (base_of (trimmed book n))) (pos (length book.receipts + n)) stored,
@@ -186,7 +207,8 @@ trim_of book keep count number =
 
 -- none leave it
 pub trimmed_none : (book : Book) → trimmed book 0 ≡ book
-trimmed_none book = ap (λ (kept : List Kept). record { base = book.base; receipts = kept; batches = book.batches }) (append-nil book.receipts)
+trimmed_none book = ap (λ (kept : List Kept). record { base = book.base; receipts = kept; batches = book.batches })
+    (append-nil book.receipts)
 
 -- ---- the next base
 
@@ -197,9 +219,11 @@ pub record IsNextBase (book : Book) (n : ℕ) (rows : Rows) (base : BaseData) : 
   pub stored : base ≡ base_of (trimmed book n)
 
 -- a base that has taken in the first batches
-pub is_next_base : {A : Type 0} (f : A → Accepted) (first : Rows) (receipts : List KeptData) (xs taken : List A) (n : ℕ) (rows : Rows) (base : BaseData)
+pub is_next_base : {A : Type 0} (f : A → Accepted) (first : Rows) (receipts : List KeptData) (xs taken : List A) (n : ℕ)
+    (rows : Rows) (base : BaseData)
     → taken ≡ take n xs → rows ≡ after first (writes_in (map f taken)) → base.rows ≡ behind rows
-    → map receipt_of base.receipts ≡ map receipt_of receipts ++ map kept_of (map f taken) → base.b ≡ length base.receipts
+    → map receipt_of base.receipts ≡ map receipt_of receipts ++ map kept_of (map f taken)
+    → base.b ≡ length base.receipts
     → IsNextBase (book_kept first receipts (map f xs)) n rows base
 is_next_base f first receipts xs taken n rows base front led stored kept number = record {
   same_rows = same_rows;
@@ -209,7 +233,8 @@ is_next_base f first receipts xs taken n rows base front led stored kept number 
       (number ∙ (sym (length-map base.receipts receipt_of) ∙ ap length same_receipts))
       ∙ (ap (λ (all : List KeptData). record { b = length next.receipts; receipts = all; rows = base.rows })
       (sym (data_back base.receipts) ∙ ap (map kept_data) same_receipts)
-      ∙ ap (λ (all : Rows). record { b = length next.receipts; receipts = map kept_data next.receipts; rows = all }) (stored ∙ ap behind same_rows));
+      ∙ ap (λ (all : Rows). record { b = length next.receipts; receipts = map kept_data next.receipts; rows = all })
+      (stored ∙ ap behind same_rows));
 }
   where
     next : Book
@@ -231,7 +256,8 @@ pub record CanEncode (base : BaseData) : Type 0 where
   pub few : length base.rows ≤ 400000
   pub rows : AreStored base.rows
 
-pub can_encode : (book : Book) (n : ℕ) (rows : Rows) (base : BaseData) → IsLegal book → 1 ≤ length book.receipts + n → n ≤ length book.batches → IsNextBase book n rows base
+pub can_encode : (book : Book) (n : ℕ) (rows : Rows) (base : BaseData) → IsLegal book → 1 ≤ length book.receipts + n
+    → n ≤ length book.batches → IsNextBase book n rows base
     → CanEncode base
 can_encode book n rows base legal some within next = subst CanEncode (sym next.stored) (record {
   some = omega (arith, some, length-receipts-trimmed book n within);
@@ -241,13 +267,18 @@ can_encode book n rows base legal some within next = subst CanEncode (sym next.s
 })
 
 -- the book of its rows, its receipts and the batches behind it
-pub book_trimmed : {A : Type 0} (f : A → Accepted) (first : Rows) (receipts : List KeptData) (xs left : List A) (n : ℕ) (rows : Rows) (base : BaseData)
+pub book_trimmed : {A : Type 0} (f : A → Accepted) (first : Rows) (receipts : List KeptData) (xs left : List A) (n : ℕ)
+    (rows : Rows) (base : BaseData)
     → IsNextBase (book_kept first receipts (map f xs)) n rows base → left ≡ drop n xs
     → book_kept rows base.receipts (map f left) ≡ trimmed (book_kept first receipts (map f xs)) n
 book_trimmed f first receipts xs left n rows base next rest =
     let batches : map f left ≡ drop n (map f xs) = ap (map f) rest ∙ sym (drop-map f n xs) in
     ap (λ (all : Rows). book_kept all base.receipts (map f left)) next.same_rows
-    ∙ (ap (λ (kept : List Kept). record { base = state_at (book_kept first receipts (map f xs)) n; receipts = kept; batches = map f left }) next.same_receipts
+    ∙ (ap (λ (kept : List Kept). record {
+      base = state_at (book_kept first receipts (map f xs)) n;
+      receipts = kept;
+      batches = map f left;
+    }) next.same_receipts
     ∙ ap (λ (some : List Accepted). record {
       base = state_at (book_kept first receipts (map f xs)) n;
       receipts = (trimmed (book_kept first receipts (map f xs)) n).receipts;
@@ -255,10 +286,12 @@ book_trimmed f first receipts xs left n rows base next rest =
     }) batches)
 
 -- it is legal
-pub trimmed_is_legal : (book : Book) (n : ℕ) (rows : Rows) (base : BaseData) → IsLegal book → n ≤ length book.batches → IsNextBase book n rows base
+pub trimmed_is_legal : (book : Book) (n : ℕ) (rows : Rows) (base : BaseData) → IsLegal book → n ≤ length book.batches
+    → IsNextBase book n rows base
     → length base.receipts < 2 ^ 62 → IsLegal (trimmed book n)
 trimmed_is_legal book n rows base legal within next few =
-    let count : length base.receipts ≡ length (trimmed book n).receipts = sym (length-map base.receipts receipt_of) ∙ ap length next.same_receipts in
+    let count : length base.receipts ≡ length (trimmed book n).receipts = sym (length-map base.receipts receipt_of)
+    ∙ ap length next.same_receipts in
     trim_keeps_legal book n legal within (omega (arith, few, count, length-receipts-trimmed book n within))
 
 -- all of it: what is encoded and which book it makes
@@ -268,10 +301,12 @@ pub record MovesOn (book later : Book) (n : ℕ) (base : BaseData) : Type 0 wher
   pub same : later ≡ trimmed book n
   pub legal : IsLegal later
 
-pub moves_on : {A : Type 0} (f : A → Accepted) (first : Rows) (receipts : List KeptData) (xs taken left : List A) (n : ℕ) (rows : Rows) (base : BaseData)
+pub moves_on : {A : Type 0} (f : A → Accepted) (first : Rows) (receipts : List KeptData) (xs taken left : List A)
+    (n : ℕ) (rows : Rows) (base : BaseData)
     → IsLegal (book_kept first receipts (map f xs)) → 1 ≤ length (map receipt_of receipts) + n → n ≤ length (map f xs)
     → taken ≡ take n xs → left ≡ drop n xs → rows ≡ after first (writes_in (map f taken)) → base.rows ≡ behind rows
-    → map receipt_of base.receipts ≡ map receipt_of receipts ++ map kept_of (map f taken) → base.b ≡ length base.receipts
+    → map receipt_of base.receipts ≡ map receipt_of receipts ++ map kept_of (map f taken)
+    → base.b ≡ length base.receipts
     → length base.receipts < 2 ^ 62
     → MovesOn (book_kept first receipts (map f xs)) (book_kept rows base.receipts (map f left)) n base
 moves_on f first receipts xs taken left n rows base legal some within front back led stored kept number few = record {

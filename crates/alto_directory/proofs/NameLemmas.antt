@@ -17,7 +17,11 @@ only of properties = filter_map (name_in of) properties
 -- properties add to each domain the names of its own
 by_domain : (ipv4 ipv6 pid : List Name) (properties : List Property)
     → with_properties (record { ipv4 = ipv4; ipv6 = ipv6; pid = pid }) properties
-    ≡ record { ipv4 = with_names ipv4 (only domain.Ipv4 properties); ipv6 = with_names ipv6 (only domain.Ipv6 properties); pid = with_names pid (only domain.Pid properties) }
+    ≡ record {
+      ipv4 = with_names ipv4 (only domain.Ipv4 properties);
+      ipv6 = with_names ipv6 (only domain.Ipv6 properties);
+      pid = with_names pid (only domain.Pid properties);
+    }
 by_domain ipv4 ipv6 pid [] = refl
 by_domain ipv4 ipv6 pid ((domain.Ipv4, name) ∷ properties) = by_domain (with_name ipv4 name) ipv6 pid properties
 by_domain ipv4 ipv6 pid ((domain.Ipv6, name) ∷ properties) = by_domain ipv4 (with_name ipv6 name) pid properties

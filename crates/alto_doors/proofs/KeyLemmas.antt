@@ -29,5 +29,11 @@ pub found_last : (it : Side) (address : List ℕ) (listeners all : List SharedLi
     → listener_at it address listeners ≡ None → is_key it address shared.key ≡ true → all ≡ listeners ++ shared ∷ []
     → listener_at it address all ≡ Some shared
 found_last it address listeners all shared none found more =
-    rw (more, find-append (λ (other : SharedListener). is_key it address other.key) listeners (shared ∷ []), none, found)
+    rw (
+      more,
+      find-append (λ (other : SharedListener). is_key it address other.key)
+          listeners (shared ∷ []),
+      none,
+      found,
+    )
     refl

@@ -1,5 +1,6 @@
 -- Documents, and patches between them, nest few deep, so their texts read back.
-use Rattle.std.proofs.Common.{ℕ, suc, ◌+◌, ◌≤◌, Bool, true, false, List, [], ◌∷◌, ◌++◌, length, map, Option, Some, None, if◌then◌else◌, codes, arith}
+use Rattle.std.proofs.Common.{ℕ, suc, ◌+◌, ◌≤◌, Bool, true, false, List, [], ◌∷◌, ◌++◌, length, map, Option, Some, None}
+use Rattle.std.proofs.Common.{if◌then◌else◌, codes, arith}
 use Rattle.std.specs.Prelude.{⊤, ◌&&◌, fold, unwrap_or}
 use Rattle.std.specs.List.{AllByRecursion, cons_option, flat_map, list_any}
 use Rattle.std.specs.Cmp.Lexicographic.{slice_cmp}
@@ -52,13 +53,16 @@ by_ordering Less a b c n p q r = p
 by_ordering Equal a b c n p q r = q
 by_ordering Greater a b c n p q r = r
 
-put_shallow : (name : List ℕ) (d : Data) (ms : Members) (n : ℕ) → depth d ≤ n → members_depth ms ≤ n → members_depth (put name d ms) ≤ n
+put_shallow : (name : List ℕ) (d : Data) (ms : Members) (n : ℕ) → depth d ≤ n → members_depth ms ≤ n
+    → members_depth (put name d ms) ≤ n
 put_shallow name d no_members n p q = omega arith
 put_shallow name d (member l e ms) n p q =
     let below = put_shallow name d ms n p (omega arith) in
-    by_ordering (slice_cmp nat_cmp name l) (member name d (member l e ms)) (member l d ms) (member l e (put name d ms)) n (omega arith) (omega arith) (omega arith)
+    by_ordering (slice_cmp nat_cmp name l) (member name d (member l e ms)) (member l d ms) (member l e (put name d ms))
+    n (omega arith) (omega arith) (omega arith)
 
-with_shallow : (name : List ℕ) (d : Data) (ms : Members) (n : ℕ) → depth d ≤ n → members_depth ms ≤ n → members_depth (with_member name d ms) ≤ n
+with_shallow : (name : List ℕ) (d : Data) (ms : Members) (n : ℕ) → depth d ≤ n → members_depth ms ≤ n
+    → members_depth (with_member name d ms) ≤ n
 unfolding with_member
 with_shallow name d ms n p q = put_shallow name d ms n p q
 
@@ -68,12 +72,14 @@ HaveShallow n ms = AllByRecursion (λ m. depth m.1 ≤ n) ms
 fold_shallow : (n : ℕ) (ms : List (List ℕ × Data)) (before : Members) → HaveShallow n ms → members_depth before ≤ n
     → members_depth (fold (λ before m. with_member m.0 m.1 before) before ms) ≤ n
 fold_shallow n [] before h p = p
-fold_shallow n (m ∷ ms) before h p = fold_shallow n ms (with_member m.0 m.1 before) h.1 (with_shallow m.0 m.1 before n h.0 p)
+fold_shallow n (m ∷ ms) before h p =
+    fold_shallow n ms (with_member m.0 m.1 before) h.1 (with_shallow m.0 m.1 before n h.0 p)
 
 object_shallow : (n : ℕ) (ms : List (List ℕ × Data)) → HaveShallow n ms → depth (object_of ms) ≤ suc n
 object_shallow n ms h = let below = fold_shallow n ms no_members h (omega arith) in omega (arith, below)
 
-two_shallow : (n : ℕ) (a b : List ℕ) (x y : Data) → depth x ≤ n → depth y ≤ n → depth (object_of ((a, x) ∷ (b, y) ∷ [])) ≤ suc n
+two_shallow : (n : ℕ) (a b : List ℕ) (x y : Data) → depth x ≤ n → depth y ≤ n
+    → depth (object_of ((a, x) ∷ (b, y) ∷ [])) ≤ suc n
 two_shallow n a b x y p q = object_shallow n ((a, x) ∷ (b, y) ∷ []) (p, (q, tt))
 
 -- ---- what maps show
@@ -87,9 +93,11 @@ record IsShallow (face : Face) : Type 0 where
 -- a prefix is listed as a text
 listed : (net pid kind : Name) (row : Key × Value) (rest : List Data) → AreShallow 0 rest
     → AreShallow 0 (cons_option (prefix_listed net pid kind row) rest)
-listed net pid kind (key.Prefix of owner prefix, v) rest h = by (same_name net of && same_name pid owner && same_name kind (family prefix.addr))
+listed net pid kind (key.Prefix of owner prefix, v) rest h =
+    by (same_name net of && same_name pid owner && same_name kind (family prefix.addr))
   where
-    by : (b : Bool) → AreShallow 0 (cons_option (if b then Some (string (prefix_text prefix.addr prefix.len)) else None) rest)
+    by : (b : Bool)
+        → AreShallow 0 (cons_option (if b then Some (string (prefix_text prefix.addr prefix.len)) else None) rest)
     by true = (omega arith, h)
     by false = h
 listed net pid kind (key.Epoch, v) rest h = h
@@ -106,7 +114,8 @@ listed net pid kind (key.Seq of, v) rest h = h
 
 prefixes_shallow : (rows : Rows) (net pid kind : Name) → AreShallow 0 (prefixes_of rows net pid kind)
 prefixes_shallow [] net pid kind = tt
-prefixes_shallow (row ∷ rows) net pid kind = listed net pid kind row (prefixes_of rows net pid kind) (prefixes_shallow rows net pid kind)
+prefixes_shallow (row ∷ rows) net pid kind =
+    listed net pid kind row (prefixes_of rows net pid kind) (prefixes_shallow rows net pid kind)
 
 number_shallow : (n : Option ℕ) → depth (number_data n) ≤ 1
 number_shallow None = omega arith
@@ -124,25 +133,29 @@ first_shallow (v ∷ values) = value_shallow v
 
 tag_shallow : (rows : Rows) (net : Name) → depth (version_tag rows net) ≤ 1
 tag_shallow rows net =
-    two_shallow 0 (codes "resource-id") (codes "tag") (string net) (string (tag_of rows (resource.Net net))) (omega arith) (omega arith)
+    two_shallow 0 (codes "resource-id") (codes "tag") (string net) (string (tag_of rows (resource.Net net)))
+    (omega arith) (omega arith)
 
 tags_shallow : (rows : Rows) (net : Name) → depth (dependent_tags rows net) ≤ 2
 tags_shallow rows net = array_shallow 1 (version_tag rows net ∷ []) (tag_shallow rows net, tt)
 
 type_shallow : (metric mode : Name) → depth (cost_type metric mode) ≤ 2
 type_shallow metric mode =
-    let one = two_shallow 0 (codes "cost-metric") (codes "cost-mode") (string metric) (string mode) (omega arith) (omega arith) in
+    let one = two_shallow 0 (codes "cost-metric") (codes "cost-mode") (string metric) (string mode) (omega arith)
+    (omega arith) in
     omega (arith, one)
 
 face_shallow : (of : Resource) (rows : Rows) → IsShallow (face_of of rows)
 face_shallow (resource.Net net) rows = record {
-  meta = let one = object_shallow 1 ((codes "vtag", version_tag rows net) ∷ []) (tag_shallow rows net, tt) in omega (arith, one);
+  meta = let one = object_shallow 1 ((codes "vtag", version_tag rows net) ∷ []) (tag_shallow rows net, tt) in
+      omega (arith, one);
   version = omega arith;
   value = λ g m. array_shallow 0 (prefixes_of rows net g m) (prefixes_shallow rows net g m);
 }
 face_shallow (resource.Cost net metric) rows = record {
   meta =
-      two_shallow 2 (codes "cost-type") (codes "dependent-vtags") (cost_type metric (codes "numerical")) (dependent_tags rows net)
+      two_shallow 2 (codes "cost-type") (codes "dependent-vtags") (cost_type metric (codes "numerical"))
+      (dependent_tags rows net)
       (type_shallow metric (codes "numerical")) (tags_shallow rows net);
   version = let two = tags_shallow rows net in omega (arith, two);
   value = λ g m. number_shallow _;
@@ -155,16 +168,19 @@ face_shallow (resource.Prop net) rows = record {
 
 -- ---- documents
 
-values_shallow : (face : Face) (g : Name) (members : List Name) → IsShallow face → HaveShallow 1 (map (λ m. (m, face.value g m)) members)
+values_shallow : (face : Face) (g : Name) (members : List Name) → IsShallow face
+    → HaveShallow 1 (map (λ m. (m, face.value g m)) members)
 values_shallow face g [] shallow = tt
 values_shallow face g (m ∷ members) shallow = (shallow.value g m, values_shallow face g members shallow)
 
 group_shallow : (face : Face) (g : Name) → IsShallow face → depth (group_object face g) ≤ 3
 group_shallow face g shallow =
-    let two = object_shallow 1 (map (λ m. (m, face.value g m)) (face.members g)) (values_shallow face g (face.members g) shallow) in
+    let two = object_shallow 1 (map (λ m. (m, face.value g m)) (face.members g))
+    (values_shallow face g (face.members g) shallow) in
     omega (arith, two)
 
-sections_shallow : (face : Face) (groups : List Name) → IsShallow face → HaveShallow 3 (map (λ g. (g, group_object face g)) groups)
+sections_shallow : (face : Face) (groups : List Name) → IsShallow face
+    → HaveShallow 3 (map (λ g. (g, group_object face g)) groups)
 sections_shallow face [] shallow = tt
 sections_shallow face (g ∷ groups) shallow = (group_shallow face g shallow, sections_shallow face groups shallow)
 
@@ -190,7 +206,8 @@ nested_shallow (name ∷ path) d h =
     let more = object_shallow (3 + length path) ((name, nested path d) ∷ []) (below, tt) in
     omega (arith, more)
 
-member_shallow : (after : Face) (g m : Name) (b : Bool) → IsShallow after → depth (unwrap_or (if b then Some (after.value g m) else None) null) ≤ 1
+member_shallow : (after : Face) (g m : Name) (b : Bool) → IsShallow after
+    → depth (unwrap_or (if b then Some (after.value g m) else None) null) ≤ 1
 member_shallow after g m true shallow = shallow.value g m
 member_shallow after g m false shallow = omega arith
 
@@ -202,10 +219,12 @@ changes_shallow after g (m ∷ members) shallow = (
   changes_shallow after g members shallow,
 )
 
-change_shallow : (after : Face) (g : Name) (members : List Name) → IsShallow after → depth (change_of after g members) ≤ 2
+change_shallow : (after : Face) (g : Name) (members : List Name) → IsShallow after
+    → depth (change_of after g members) ≤ 2
 change_shallow after g members shallow = by (stands after g)
   where
-    by : (b : Bool) → depth (if b then object_of (map (λ m. (m, unwrap_or (member_in after g m) null)) members) else null) ≤ 2
+    by : (b : Bool)
+        → depth (if b then object_of (map (λ m. (m, unwrap_or (member_in after g m) null)) members) else null) ≤ 2
     by true = object_shallow 1 _ (changes_shallow after g members shallow)
     by false = omega arith
 
@@ -215,13 +234,16 @@ groups_shallow after places [] shallow = tt
 groups_shallow after places (g ∷ groups) shallow =
     (change_shallow after g (touched_members g places) shallow, groups_shallow after places groups shallow)
 
-have_append : (n : ℕ) (first second : List (Name × Data)) → HaveShallow n first → HaveShallow n second → HaveShallow n (first ++ second)
+have_append : (n : ℕ) (first second : List (Name × Data)) → HaveShallow n first → HaveShallow n second
+    → HaveShallow n (first ++ second)
 have_append n [] second a b = b
 have_append n (m ∷ first) second a b = (a.0, have_append n first second a.1 b)
 
-section_shallow : (name : Name) (changes : List (Name × Data)) → HaveShallow 2 changes → HaveShallow 5 (part name (section_change changes))
+section_shallow : (name : Name) (changes : List (Name × Data)) → HaveShallow 2 changes
+    → HaveShallow 5 (part name (section_change changes))
 section_shallow name [] h = tt
-section_shallow name (change ∷ changes) h = let three = object_shallow 2 (change ∷ changes) h in (omega (arith, three), tt)
+section_shallow name (change ∷ changes) h = let three = object_shallow 2 (change ∷ changes) h in
+    (omega (arith, three), tt)
 
 meta_shallow : (shape : Shape) (after : Face) (places : List Place) → length shape.path ≤ 2 → IsShallow after
     → HaveShallow 5 (part (codes "meta") (meta_change shape after places))
@@ -236,7 +258,8 @@ patch_shallow : (shape : Shape) (after : Face) (places : List Place) → length 
 unfolding merge.merge_form
 patch_shallow shape after places short shallow =
     object_shallow 5 _
-    (have_append 5 (part (codes "meta") (meta_change shape after places)) _ (meta_shallow shape after places short shallow)
+    (have_append 5 (part (codes "meta") (meta_change shape after places))
+    _ (meta_shallow shape after places short shallow)
     (section_shallow shape.section _ (groups_shallow after places (touched_groups places) shallow)))
 
 short_path : (of : Resource) → length (shape_of of).path ≤ 2
@@ -247,7 +270,8 @@ short_path (resource.Prop net) = omega arith
 -- the merge patch of an edge
 pub merge_shallow : (of : Resource) (after : Rows) (keys : List Key) → depth (merge_form of after keys) ≤ max_depth
 merge_shallow of after keys =
-    let six = patch_shallow (shape_of of) (face_of of after) (map (place_of of) keys) (short_path of) (face_shallow of after) in
+    let six = patch_shallow (shape_of of) (face_of of after) (map (place_of of) keys) (short_path of)
+    (face_shallow of after) in
     omega (arith, six)
 
 -- ---- operations
@@ -260,15 +284,18 @@ ActsShallow (replace d) = depth d ≤ 3
 abbrev AllActShallow : List Operation → Type 0
 AllActShallow operations = AllByRecursion (λ operation. ActsShallow operation.action) operations
 
-act_append : (first second : List Operation) → AllActShallow first → AllActShallow second → AllActShallow (first ++ second)
+act_append : (first second : List Operation) → AllActShallow first → AllActShallow second
+    → AllActShallow (first ++ second)
 act_append [] second a b = b
 act_append (operation ∷ first) second a b = (a.0, act_append first second a.1 b)
 
-act_flat : {A : Type 0} (f : A → List Operation) (items : List A) → ((item : A) → AllActShallow (f item)) → AllActShallow (flat_map f items)
+act_flat : {A : Type 0} (f : A → List Operation) (items : List A) → ((item : A) → AllActShallow (f item))
+    → AllActShallow (flat_map f items)
 act_flat f [] each = tt
 act_flat f (item ∷ items) each = act_append (f item) (flat_map f items) (each item) (act_flat f items each)
 
-act_under : (name : Name) (operations : List Operation) → AllActShallow operations → AllActShallow (map (under name) operations)
+act_under : (name : Name) (operations : List Operation) → AllActShallow operations
+    → AllActShallow (map (under name) operations)
 act_under name [] h = tt
 act_under name (operation ∷ operations) h = (h.0, act_under name operations h.1)
 
@@ -278,55 +305,71 @@ member_acts after g m old true shallow = let one = shallow.value g m in (omega (
 member_acts after g m (Some old) false shallow = (tt, tt)
 member_acts after g m None false shallow = tt
 
-members_act : (before after : Face) (g : Name) (members : List Name) → IsShallow after → AllActShallow (on_members before after g members)
+members_act : (before after : Face) (g : Name) (members : List Name) → IsShallow after
+    → AllActShallow (on_members before after g members)
 members_act before after g members shallow =
     act_flat (λ m. on_member m (member_in before g m) (member_in after g m)) members
-    (λ m. member_acts after g m (member_in before g m) (stands after g && list_any (same_name m) (after.members g)) shallow)
+    (λ m. member_acts after g m (member_in before g m)
+    (stands after g && list_any (same_name m) (after.members g)) shallow)
 
-standing_acts : (g : Name) (new : Data) (within : List Operation) (stood stands : Bool) → depth new ≤ 3 → AllActShallow within
+standing_acts : (g : Name) (new : Data) (within : List Operation) (stood stands : Bool) → depth new ≤ 3
+    → AllActShallow within
     → AllActShallow (by_standing g new within stood stands)
 standing_acts g new within true true d h = act_under g within h
 standing_acts g new within true false d h = (tt, tt)
 standing_acts g new within false true d h = (d, tt)
 standing_acts g new within false false d h = tt
 
-group_acts : (before after : Face) (places : List Place) (g : Name) → IsShallow after → AllActShallow (on_group before after places g)
+group_acts : (before after : Face) (places : List Place) (g : Name) → IsShallow after
+    → AllActShallow (on_group before after places g)
 group_acts before after places g shallow =
-    standing_acts g (group_object after g) (on_members before after g (touched_members g places)) (stands before g) (stands after g)
+    standing_acts g (group_object after g) (on_members before after g (touched_members g places)) (stands before g)
+    (stands after g)
     (group_shallow after g shallow) (members_act before after g (touched_members g places) shallow)
 
-meta_acts : (shape : Shape) (after : Face) (places : List Place) → IsShallow after → AllActShallow (on_meta shape after places)
+meta_acts : (shape : Shape) (after : Face) (places : List Place) → IsShallow after
+    → AllActShallow (on_meta shape after places)
 meta_acts shape after places shallow = by (list_any touches_meta places)
   where
-    by : (b : Bool) → AllActShallow (if b then record { path = codes "meta" ∷ shape.path; action = replace after.version } ∷ [] else [])
+    by : (b : Bool)
+        → AllActShallow (if b then record { path = codes "meta" ∷ shape.path; action = replace after.version }
+        ∷ [] else [])
     by true = (shallow.version, tt)
     by false = tt
 
-all_act : (shape : Shape) (before after : Face) (places : List Place) → IsShallow after → AllActShallow (operation.operation_form shape before after places)
+all_act : (shape : Shape) (before after : Face) (places : List Place) → IsShallow after
+    → AllActShallow (operation.operation_form shape before after places)
 unfolding operation.operation_form
 all_act shape before after places shallow =
     act_append (on_meta shape after places) _ (meta_acts shape after places shallow)
     (act_under shape.section (flat_map (on_group before after places) (touched_groups places))
     (act_flat (on_group before after places) (touched_groups places) (λ g. group_acts before after places g shallow)))
 
-operation_shallow : (path : List Name) (action : Action) → ActsShallow action → depth (operation_data (record { path = path; action = action })) ≤ 4
+operation_shallow : (path : List Name) (action : Action) → ActsShallow action
+    → depth (operation_data (record { path = path; action = action })) ≤ 4
 operation_shallow path (add d) h =
-    object_shallow 3 ((codes "op", string (codes "add")) ∷ (codes "path", string (pointer_text path)) ∷ (codes "value", d) ∷ [])
+    object_shallow 3 ((codes "op", string (codes "add")) ∷ (codes "path", string (pointer_text path))
+    ∷ (codes "value", d) ∷ [])
     (omega arith, (omega arith, (h, tt)))
 operation_shallow path remove h =
-    two_shallow 3 (codes "op") (codes "path") (string (codes "remove")) (string (pointer_text path)) (omega arith) (omega arith)
+    two_shallow 3 (codes "op") (codes "path") (string (codes "remove")) (string (pointer_text path))
+    (omega arith) (omega arith)
 operation_shallow path (replace d) h =
-    object_shallow 3 ((codes "op", string (codes "replace")) ∷ (codes "path", string (pointer_text path)) ∷ (codes "value", d) ∷ [])
+    object_shallow 3 ((codes "op", string (codes "replace")) ∷ (codes "path", string (pointer_text path))
+    ∷ (codes "value", d) ∷ [])
     (omega arith, (omega arith, (h, tt)))
 
 items_shallow : (operations : List Operation) → AllActShallow operations → AreShallow 4 (map operation_data operations)
 items_shallow [] h = tt
-items_shallow (operation ∷ operations) h = (operation_shallow operation.path operation.action h.0, items_shallow operations h.1)
+items_shallow (operation ∷ operations) h =
+    (operation_shallow operation.path operation.action h.0, items_shallow operations h.1)
 
 -- the operations of an edge, as a document
-pub operations_shallow : (of : Resource) (before after : Rows) (keys : List Key) → depth (operations_data (operation_form of before after keys)) ≤ max_depth
+pub operations_shallow : (of : Resource) (before after : Rows) (keys : List Key)
+    → depth (operations_data (operation_form of before after keys)) ≤ max_depth
 operations_shallow of before after keys =
     let operations = operation_form of before after keys in
     let five = array_shallow 4 (map operation_data operations)
-    (items_shallow operations (all_act (shape_of of) (face_of of before) (face_of of after) (map (place_of of) keys) (face_shallow of after))) in
+    (items_shallow operations (all_act (shape_of of) (face_of of before) (face_of of after) (map (place_of of) keys)
+    (face_shallow of after))) in
     omega (arith, five)

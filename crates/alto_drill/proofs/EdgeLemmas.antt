@@ -1,5 +1,6 @@
 -- The available edges of a resource, by its updates graph.
-use Rattle.std.proofs.Common.{◌≡◌, ℕ, ◌+◌, ◌≤◌, ◌==◌, Bool, true, false, List, [], ◌∷◌, ◌++◌, map, Some, None, if◌then◌else◌, append_assoc, refl, ap, sym, subst, ◌∙◌, arith}
+use Rattle.std.proofs.Common.{◌≡◌, ℕ, ◌+◌, ◌≤◌, ◌==◌, Bool, true, false, List, [], ◌∷◌, ◌++◌, map, Some, None}
+use Rattle.std.proofs.Common.{if◌then◌else◌, append_assoc, refl, ap, sym, subst, ◌∙◌, arith}
 use Rattle.std.proofs.lemmas.Bool.Decides.{nat_tests}
 use Rattle.std.proofs.lemmas.List.{flat_map_more, map-append, map-id}
 use Rattle.std.proofs.lemmas.List.Elements.{All-from_recursion, All-weaker, filter-append}
@@ -34,7 +35,8 @@ graph_in_version : (version : Version) (book : Book) (of : Resource) → StandsF
     → graph_in version.graphs of ≡ (if is_declared (rows_of book) of then Some (updates_graph book of) else None)
 graph_in_version version book of stands = ap (λ graphs. graph_in graphs of) stands.graphs ∙ graph_found book of
 
-chosen : (b : Bool) (graph there : GraphData) → Some graph ≡ (if b then Some there else None) → (b ≡ true) × (graph ≡ there)
+chosen : (b : Bool) (graph there : GraphData) → Some graph ≡ (if b then Some there else None)
+    → (b ≡ true) × (graph ≡ there)
 chosen true graph there h = (refl, cc)
 chosen false graph there h = cc
 
@@ -43,17 +45,21 @@ left_out true there h = cc
 left_out false there h = refl
 
 -- a graph that a version has is that of a declared resource
-pub graph_some : (version : Version) (book : Book) (of : Resource) (graph : GraphData) → IsLegal book → StandsFor version book
+pub graph_some : (version : Version) (book : Book) (of : Resource) (graph : GraphData) → IsLegal book
+    → StandsFor version book
     → Some graph ≡ graph_in version.graphs of → TellsNumbers graph book of × (is_declared (rows_of book) of ≡ true)
 graph_some version book of graph legal stands found =
-    let is = chosen (is_declared (rows_of book) of) graph (updates_graph book of) (found ∙ graph_in_version version book of stands) in
+    let is = chosen (is_declared (rows_of book) of) graph (updates_graph book of)
+    (found ∙ graph_in_version version book of stands) in
     let P : GraphData → Type 0 = λ g. TellsNumbers g book of in
     (subst P (sym is.1) (graph_tells book of legal is.0), is.0)
 
 -- where a version has none, the resource has no edges
-pub no_edges : (version : Version) (book : Book) (of : Resource) → StandsFor version book → None ≡ graph_in version.graphs of → edges_of book of ≡ []
+pub no_edges : (version : Version) (book : Book) (of : Resource) → StandsFor version book
+    → None ≡ graph_in version.graphs of → edges_of book of ≡ []
 no_edges version book of stands found =
-    rw (left_out (is_declared (rows_of book) of) (updates_graph book of) (found ∙ graph_in_version version book of stands)) refl
+    rw (left_out (is_declared (rows_of book) of) (updates_graph book of)
+    (found ∙ graph_in_version version book of stands)) refl
 
 -- ---- the edges
 
@@ -66,7 +72,8 @@ range_more n =
 -- the edges from a number, by one end more
 pub ends_more : (status : ℕ → ℕ → EdgeStatus) (i j : ℕ)
     → map {B = ℕ × ℕ} (λ j. (i, j)) (filter (λ j. is_here (status i j)) (range_with_len 0 (j + 1)))
-    ≡ map {B = ℕ × ℕ} (λ j. (i, j)) (filter (λ j. is_here (status i j)) (range_with_len 0 j)) ++ (if is_here (status i j) then (i, j) ∷ [] else [])
+    ≡ map {B = ℕ × ℕ} (λ j. (i, j)) (filter (λ j. is_here (status i j)) (range_with_len 0 j))
+    ++ (if is_here (status i j) then (i, j) ∷ [] else [])
 ends_more status i j =
     let here : ℕ → Bool = λ j. is_here (status i j) in
     ap (λ numbers. map {B = ℕ × ℕ} (λ j. (i, j)) (filter here numbers)) (range_more j)
@@ -86,13 +93,16 @@ pub ends_step : (status : ℕ → ℕ → EdgeStatus) (i j : ℕ) (before now : 
 ends_step status i j before now is =
     let some : List (ℕ × ℕ) = map {B = ℕ × ℕ} (λ j. (i, j)) (filter (λ j. is_here (status i j)) (range_with_len 0 j)) in
     let last : List (ℕ × ℕ) = if is_here (status i j) then (i, j) ∷ [] else [] in
-    ap (λ edges. edges ++ last) is ∙ append_assoc before some last ∙ ap (λ more. before ++ more) (sym (ends_more status i j))
+    ap (λ edges. edges ++ last) is ∙ append_assoc before some last
+    ∙ ap (λ more. before ++ more) (sym (ends_more status i j))
 
 -- the edges, by one beginning more
 pub starts_more : (status : ℕ → ℕ → EdgeStatus) (last i : ℕ)
-    → flat_map (edges_from status last) (range_with_len 0 i) ++ edges_from status last i ≡ flat_map (edges_from status last) (range_with_len 0 (i + 1))
+    → flat_map (edges_from status last) (range_with_len 0 i) ++ edges_from status last i
+    ≡ flat_map (edges_from status last) (range_with_len 0 (i + 1))
 starts_more status last i =
-    flat_map_more (edges_from status last) [] (range_with_len 0 i) i ∙ ap (flat_map (edges_from status last)) (sym (range_more i))
+    flat_map_more (edges_from status last) [] (range_with_len 0 i) i
+    ∙ ap (flat_map (edges_from status last)) (sym (range_more i))
 
 here_is : (status : EdgeStatus) → is_here status ≡ true → status ≡ Here
 here_is Here h = refl
@@ -104,20 +114,25 @@ here_is Ahead h = cc
 abbrev pub AreHere : (ℕ → ℕ → EdgeStatus) → List (ℕ × ℕ) → Type 0
 AreHere status edges = AllByRecursion (λ edge. status edge.0 edge.1 ≡ Here) edges
 
-here_from : (status : ℕ → ℕ → EdgeStatus) (i : ℕ) (numbers : List ℕ) → AreHere status (map (λ j. (i, j)) (filter (λ j. is_here (status i j)) numbers))
+here_from : (status : ℕ → ℕ → EdgeStatus) (i : ℕ) (numbers : List ℕ)
+    → AreHere status (map (λ j. (i, j)) (filter (λ j. is_here (status i j)) numbers))
 here_from status i [] = tt
 here_from status i (j ∷ numbers) = by (is_here (status i j)) refl (here_from status i numbers)
   where
-    by : (b : Bool) → is_here (status i j) ≡ b → AreHere status (map (λ j. (i, j)) (filter (λ j. is_here (status i j)) numbers))
-        → AreHere status (map (λ j. (i, j)) (if b then j ∷ filter (λ j. is_here (status i j)) numbers else filter (λ j. is_here (status i j)) numbers))
+    by : (b : Bool) → is_here (status i j) ≡ b
+        → AreHere status (map (λ j. (i, j)) (filter (λ j. is_here (status i j)) numbers))
+        → AreHere status (map (λ j. (i, j)) (if b then j ∷ filter (λ j. is_here (status i j)) numbers else
+        filter (λ j. is_here (status i j)) numbers))
     by true e below = (here_is (status i j) e, below)
     by false e below = below
 
-here_append : (status : ℕ → ℕ → EdgeStatus) (first second : List (ℕ × ℕ)) → AreHere status first → AreHere status second → AreHere status (first ++ second)
+here_append : (status : ℕ → ℕ → EdgeStatus) (first second : List (ℕ × ℕ)) → AreHere status first → AreHere status second
+    → AreHere status (first ++ second)
 here_append status [] second a b = b
 here_append status (edge ∷ first) second a b = (a.0, here_append status first second a.1 b)
 
-here_in : (status : ℕ → ℕ → EdgeStatus) (last : ℕ) (numbers : List ℕ) → AreHere status (flat_map (edges_from status last) numbers)
+here_in : (status : ℕ → ℕ → EdgeStatus) (last : ℕ) (numbers : List ℕ)
+    → AreHere status (flat_map (edges_from status last) numbers)
 here_in status last [] = tt
 here_in status last (i ∷ numbers) =
     here_append status (edges_from status last i) (flat_map (edges_from status last) numbers)
@@ -129,7 +144,8 @@ unfolding edges_by
 all_here status last = here_in status last (range_with_len 0 (last + 1))
 
 -- those of a graph are those of the book
-pub same_edges : (graph : GraphData) (book : Book) (of : Resource) → TellsNumbers graph book of → is_declared (rows_of book) of ≡ true
+pub same_edges : (graph : GraphData) (book : Book) (of : Resource) → TellsNumbers graph book of
+    → is_declared (rows_of book) of ≡ true
     → edges_by (status_of graph) (last_of graph) ≡ edges_of book of
 same_edges graph book of is declared = rw declared (λ n. edges_by (λ i j. is.status i j n) (is.last n))
 
@@ -143,16 +159,20 @@ here_in_book graph book of is =
 
 -- ---- what a graph has for an edge
 
-pub here_too : (graph : GraphData) (book other : Book) (of : Resource) (i j : ℕ) → TellsNumbers graph book of → TellsNumbers graph other of
+pub here_too : (graph : GraphData) (book other : Book) (of : Resource) (i j : ℕ) → TellsNumbers graph book of
+    → TellsNumbers graph other of
     → status_at book of i j ≡ Here → status_at other of i j ≡ Here
 here_too graph book other of i j is again here = sym (again.status i j) ∙ is.status i j ∙ here
 
 -- the rows at a number that it keeps
-kept_rows : (graph : GraphData) (book : Book) (of : Resource) (n : ℕ) (rows : Rows) → TellsNumbers graph book of → keeps graph n ≡ true
+kept_rows : (graph : GraphData) (book : Book) (of : Resource) (n : ℕ) (rows : Rows) → TellsNumbers graph book of
+    → keeps graph n ≡ true
     → Some rows ≡ graph_rows graph n → rows ≡ rows_at book of n
-kept_rows graph book of n rows is kept found = let there : Some rows ≡ Some (rows_at book of n) = found ∙ is.rows n kept in cc
+kept_rows graph book of n rows is kept found = let there : Some rows ≡ Some (rows_at book of n) =
+    found ∙ is.rows n kept in cc
 
-kept_some : (graph : GraphData) (book : Book) (of : Resource) (n : ℕ) → TellsNumbers graph book of → keeps graph n ≡ true → None ≡ graph_rows graph n → ⊥
+kept_some : (graph : GraphData) (book : Book) (of : Resource) (n : ℕ) → TellsNumbers graph book of
+    → keeps graph n ≡ true → None ≡ graph_rows graph n → ⊥
 kept_some graph book of n is kept none = let there : None ≡ Some (rows_at book of n) = none ∙ is.rows n kept in cc
 
 -- those at its end
@@ -171,7 +191,8 @@ not_zero : (i : ℕ) → (i == 0) ≡ false → 1 ≤ i
 not_zero i h = grind (arith, nat_tests)
 
 -- where the graph has keys, the edge leads from a number
-pub low_of_span : (graph : GraphData) (book : Book) (of : Resource) (i j : ℕ) (keys : List Key) → TellsNumbers graph book of
+pub low_of_span : (graph : GraphData) (book : Book) (of : Resource) (i j : ℕ) (keys : List Key)
+    → TellsNumbers graph book of
     → Some keys ≡ span_of graph i j → 1 ≤ i
 low_of_span graph book of i j keys is found = by (i == 0) refl
   where
@@ -191,7 +212,8 @@ pub some_start : (graph : GraphData) (book : Book) (of : Resource) (i j : ℕ) �
 some_start graph book of i j is here low none = kept_some graph book of i is (is.begins i j low here) none
 
 -- they are good and declare the resource
-kept_good : (graph : GraphData) (book : Book) (of : Resource) (n : ℕ) (rows : Rows) → TellsNumbers graph book of → keeps graph n ≡ true
+kept_good : (graph : GraphData) (book : Book) (of : Resource) (n : ℕ) (rows : Rows) → TellsNumbers graph book of
+    → keeps graph n ≡ true
     → rows ≡ rows_at book of n → AreGood rows × (is_declared rows of ≡ true)
 kept_good graph book of n rows is kept same =
     let P : Rows → Type 0 = λ r. AreGood r × (is_declared r of ≡ true) in
@@ -208,7 +230,8 @@ good_start graph book of i j rows is here low same = kept_good graph book of i r
 -- ---- what the edge holds
 
 -- where the graph has no keys, the document
-pub whole_contents : (graph : GraphData) (book : Book) (of : Resource) (i j : ℕ) (rows : Rows) → TellsNumbers graph book of
+pub whole_contents : (graph : GraphData) (book : Book) (of : Resource) (i j : ℕ) (rows : Rows)
+    → TellsNumbers graph book of
     → status_at book of i j ≡ Here → rows ≡ rows_at book of j → None ≡ span_of graph i j
     → document (documents.document of rows) ∷ [] ≡ contents_of book of (i, j)
 unfolding contents_of
@@ -216,15 +239,18 @@ whole_contents graph book of i j rows is here same found = by (i == 0) refl
   where
     by : (b : Bool) → (i == 0) ≡ b
         → document (documents.document of rows) ∷ []
-        ≡ (if b then document (document_at book of j) ∷ [] else edge_content book of form.Merge i j ∷ edge_content book of form.Operations i j ∷ [])
+        ≡ (if b then document (document_at book of j) ∷ [] else edge_content book of form.Merge i j
+        ∷ edge_content book of form.Operations i j ∷ [])
     by true h = λ n. document (documents.document of (same n)) ∷ []
     by false h =
         let none : None ≡ Some (keys_between book of i j) = found ∙ is.step i j (not_zero i h) here in
         cc
 
 -- and else both patches by its keys
-pub patch_contents : (graph : GraphData) (book : Book) (of : Resource) (i j : ℕ) (before rows : Rows) (keys : List Key) → TellsNumbers graph book of
-    → status_at book of i j ≡ Here → before ≡ rows_at book of i → rows ≡ rows_at book of j → Some keys ≡ span_of graph i j
+pub patch_contents : (graph : GraphData) (book : Book) (of : Resource) (i j : ℕ) (before rows : Rows) (keys : List Key)
+    → TellsNumbers graph book of
+    → status_at book of i j ≡ Here → before ≡ rows_at book of i → rows ≡ rows_at book of j
+    → Some keys ≡ span_of graph i j
     → patch form.Merge of before rows keys ∷ patch form.Operations of before rows keys ∷ [] ≡ contents_of book of (i, j)
 unfolding contents_of
 patch_contents graph book of i j before rows keys is here began same found = by (i == 0) refl
@@ -238,8 +264,11 @@ patch_contents graph book of i j before rows keys is here began same found = by 
     by : (b : Bool) → (i == 0) ≡ b
         → patch form.Merge of before rows keys ∷ patch form.Operations of before rows keys ∷ []
         ≡ (if b then document (document_at book of j) ∷ []
-        else (if b then document (document_at book of j) else patch form.Merge of (rows_at book of i) (rows_at book of j) (keys_between book of i j))
-        ∷ (if b then document (document_at book of j) else patch form.Operations of (rows_at book of i) (rows_at book of j) (keys_between book of i j)) ∷ [])
+        else (if b then document (document_at book of j) else patch form.Merge of (rows_at book of i)
+        (rows_at book of j) (keys_between book of i j))
+        ∷ (if b then document (document_at book of j) else patch form.Operations of (rows_at book of i)
+        (rows_at book of j) (keys_between book of i j)) ∷ [])
     by true h = absurd (omega (arith, low, is_zero i h))
     by false h =
-        λ n. patch form.Merge of (began n) (same n) (between n) ∷ patch form.Operations of (began n) (same n) (between n) ∷ []
+        λ n. patch form.Merge of (began n) (same n) (between n) ∷ patch form.Operations of (began n) (same n)
+        (between n) ∷ []

@@ -1,5 +1,6 @@
 -- The edits of a drill's imports may stand in imports.
-use Rattle.std.proofs.Common.{◌≡◌, ℕ, zero, suc, ◌+◌, ◌-◌, ◌/◌, ◌%◌, ◌^◌, ◌<◌, ◌≤◌, ◌==◌, Bool, true, false, List, [], ◌∷◌, ◌++◌, map, if◌then◌else◌, refl, sym, subst, arith}
+use Rattle.std.proofs.Common.{◌≡◌, ℕ, zero, suc, ◌+◌, ◌-◌, ◌/◌, ◌%◌, ◌^◌, ◌<◌, ◌≤◌, ◌==◌, Bool, true, false, List, []}
+use Rattle.std.proofs.Common.{◌∷◌, ◌++◌, map, if◌then◌else◌, refl, sym, subst, arith}
 use Rattle.std.specs.Prelude.{All}
 use Rattle.std.specs.List.{AllByRecursion, range_with_len}
 use Rattle.std.proofs.lemmas.List.Elements.{All-from_recursion}
@@ -11,7 +12,8 @@ use Rattle.alto_edits.specs.declared.edit.Edit.TheVariants as edit
 use Rattle.alto_edits.specs.Edits.{IsEdit}
 use Rattle.alto_drill.specs.Draws.{draw}
 use Rattle.alto_book.specs.Import.{Import}
-use Rattle.alto_drill.specs.Imports.{choice_from, edits_from, import_from, later_edits, metric_name, net_name, opening_edits, pid_name, prefix_of, renewal_edits}
+use Rattle.alto_drill.specs.Imports.{choice_from, edits_from, import_from, later_edits, metric_name, net_name}
+use Rattle.alto_drill.specs.Imports.{opening_edits, pid_name, prefix_of, renewal_edits}
 use Rattle.alto_drill.proofs.NameLemmas.{pid_named}
 
 abbrev AreEdits : List Edit → Type 0
@@ -34,8 +36,11 @@ pids_added m (suc n) small = (pid_added m (omega arith), pids_added (m + 1) n (o
 
 opening_fit : AreEdits opening_edits
 unfolding opening_edits
-opening_fit =
-    (refl, edits_append (map (λ m. edit.PidAdd net_name (pid_name m)) (range_with_len 0 8)) (edit.MetricAdd net_name metric_name ∷ []) (pids_added 0 8 (omega arith)) ((refl, refl), tt))
+opening_fit = (
+  refl,
+  edits_append (map (λ m. edit.PidAdd net_name (pid_name m)) (range_with_len 0 8))
+      (edit.MetricAdd net_name metric_name ∷ []) (pids_added 0 8 (omega arith)) ((refl, refl), tt),
+)
 
 renewal_fit : (k : ℕ) → AreEdits (renewal_edits k)
 renewal_fit k = by (k % 5 == 0) refl
@@ -43,7 +48,9 @@ renewal_fit k = by (k % 5 == 0) refl
     pid : IsEdit (edit.PidAdd net_name (pid_name (k / 5 % 8)))
     pid = pid_added (k / 5 % 8) (low (k / 5) 8 (omega arith) (omega arith))
 
-    by : (b : Bool) → (k % 5 == 0) ≡ b → AreEdits (if b then edit.PidDrop net_name (pid_name (k / 5 % 8)) ∷ edit.PidAdd net_name (pid_name (k / 5 % 8)) ∷ [] else [])
+    by : (b : Bool) → (k % 5 == 0) ≡ b
+        → AreEdits (if b then edit.PidDrop net_name (pid_name (k / 5 % 8))
+        ∷ edit.PidAdd net_name (pid_name (k / 5 % 8)) ∷ [] else [])
     by true e = (pid, (pid, tt))
     by false e = tt
 
@@ -54,8 +61,10 @@ prefix_fits k few = omega arith
 later_fit : (x k : ℕ) → k ≤ 1000 → AreEdits (later_edits k (choice_from x))
 unfolding later_edits choice_from
 later_fit x k few =
-    edits_append (renewal_edits k) _ (renewal_fit k)
-    ((refl, of_draw 1, prefix_fits k few), (((refl, refl, of_draw 2, of_draw 3), cost), (((refl, of_draw 5, refl), color), tt)))
+    edits_append (renewal_edits k) _ (renewal_fit k) (
+      (refl, of_draw 1, prefix_fits k few),
+      (((refl, refl, of_draw 2, of_draw 3), cost), (((refl, of_draw 5, refl), color), tt)),
+    )
   where
     of_draw : (n : ℕ) → IsPidName (pid_name (draw x n % 8))
     of_draw n = pid_named (draw x n % 8) (low (draw x n) 8 (omega arith) (omega arith))

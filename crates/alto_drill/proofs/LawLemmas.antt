@@ -1,5 +1,6 @@
 -- No edge of a legal book fails.
-use Rattle.std.proofs.Common.{◌≡◌, ℕ, ◌≤◌, ◌==◌, Bool, true, false, List, [], ◌∷◌, ◌++◌, map, Option, Some, Result, Ok, Err, if◌then◌else◌, bytes_eq, refl, ap, ◌∙◌, arith}
+use Rattle.std.proofs.Common.{◌≡◌, ℕ, ◌≤◌, ◌==◌, Bool, true, false, List, [], ◌∷◌, ◌++◌, map, Option, Some, Result, Ok}
+use Rattle.std.proofs.Common.{Err, if◌then◌else◌, bytes_eq, refl, ap, ◌∙◌, arith}
 use Rattle.std.proofs.lemmas.Bool.Decides.{nat_tests}
 use Rattle.std.specs.List.{AllByRecursion}
 use Rattle.std.specs.Prelude.{◌&&◌}
@@ -31,7 +32,8 @@ use Rattle.alto_book.proofs.TellLemmas.{graph_tells}
 use Rattle.alto_book.proofs.WalkLemmas.{walks_lead_on}
 use Rattle.alto_drill.specs.Drilled.{failures_in, trials_of}
 use Rattle.alto_drill.specs.Edges.{edges_by, edges_of}
-use Rattle.alto_drill.specs.Trials.{all_lead, contents_of, has_text, leads_on, reached, reached_by_merge, reached_by_operations, read_back, TrialData, with_edges, with_resource}
+use Rattle.alto_drill.specs.Trials.{all_lead, contents_of, has_text, leads_on, reached, reached_by_merge}
+use Rattle.alto_drill.specs.Trials.{reached_by_operations, read_back, TrialData, with_edges, with_resource}
 use Rattle.alto_drill.proofs.EdgeLemmas.{all_here, AreHere}
 use Rattle.alto_drill.proofs.TreeLemmas.{document_reads}
 
@@ -42,7 +44,8 @@ ended (Ok e) d h = h
 ended (Err fault) d h = cc
 
 -- an available edge leads from document to document
-edge_steps : (book : Book) (of : Resource) (form : PatchForm) (i j : ℕ) → IsLegal book → is_declared (rows_of book) of ≡ true → status_at book of i j ≡ Here
+edge_steps : (book : Book) (of : Resource) (form : PatchForm) (i j : ℕ) → IsLegal book
+    → is_declared (rows_of book) of ≡ true → status_at book of i j ≡ Here
     → held_after (document_at book of i) (edge_content book of form i j) ≡ Ok (document_at book of j)
 edge_steps book of form i j legal declared here =
     let edge : Edge = record { i = i; j = j; form = form; content = edge_content book of form i j } in
@@ -61,7 +64,8 @@ has_come d reached is = rw is (same_text (compact_text d))
 patch_leads : (form : PatchForm) (of : Resource) (before later : Rows) (keys : List Key)
     → read_back (documents.document of before) ≡ Some (documents.document of before)
     → held_after (documents.document of before) (patch form of before later keys) ≡ Ok (documents.document of later)
-    → has_text (compact_text (documents.document of later)) (reached (documents.document of before) (patch form of before later keys)) ≡ true
+    → has_text (compact_text (documents.document of later))
+    (reached (documents.document of before) (patch form of before later keys)) ≡ true
 unfolding reached
 patch_leads form.Merge of before later keys reads steps =
     let change = merge_form of later keys in
@@ -79,7 +83,8 @@ both_true a b p q = rw (p, q) refl
 not_zero : (i : ℕ) → (i == 0) ≡ false → 1 ≤ i
 not_zero i h = grind (arith, nat_tests)
 
-edge_leads : (book : Book) (of : Resource) (i j : ℕ) → IsLegal book → is_declared (rows_of book) of ≡ true → status_at book of i j ≡ Here
+edge_leads : (book : Book) (of : Resource) (i j : ℕ) → IsLegal book → is_declared (rows_of book) of ≡ true
+    → status_at book of i j ≡ Here
     → leads_on book of (i, j) ≡ true
 unfolding leads_on contents_of all_lead reached
 edge_leads book of i j legal declared here = by (i == 0) refl
@@ -87,7 +92,8 @@ edge_leads book of i j legal declared here = by (i == 0) refl
     is : TellsNumbers (updates_graph book of) book of
     is = graph_tells book of legal declared
 
-    reads : (n : ℕ) → keeps (updates_graph book of) n ≡ true → read_back (document_at book of n) ≡ Some (document_at book of n)
+    reads : (n : ℕ) → keeps (updates_graph book of) n ≡ true
+        → read_back (document_at book of n) ≡ Some (document_at book of n)
     reads n kept = ap result_ok (document_reads of (rows_at book of n) (is.good n) (is.declared n kept))
 
     by : (b : Bool) → (i == 0) ≡ b → leads_on book of (i, j) ≡ true
@@ -103,7 +109,8 @@ edge_leads book of i j legal declared here = by (i == 0) refl
         let later = rows_at book of j in
         let keys = keys_between book of i j in
         rw e
-        (both_true _ _ (patch_leads form.Merge of rows later keys held (rw e at merge)) (patch_leads form.Operations of rows later keys held (rw e at operations)))
+        (both_true _ _ (patch_leads form.Merge of rows later keys held (rw e at merge))
+        (patch_leads form.Operations of rows later keys held (rw e at operations)))
 
 -- ---- all edges
 
@@ -119,7 +126,8 @@ unfolding failures_in
 none_fails [] h = refl
 none_fails (lead ∷ leads) h = rw h.0 (none_fails leads h.1)
 
-all_lead_on : (book : Book) (of : Resource) (edges : List (ℕ × ℕ)) → IsLegal book → is_declared (rows_of book) of ≡ true → AreHere (status_at book of) edges
+all_lead_on : (book : Book) (of : Resource) (edges : List (ℕ × ℕ)) → IsLegal book → is_declared (rows_of book) of ≡ true
+    → AreHere (status_at book of) edges
     → AreTrue (map (leads_on book of) edges)
 all_lead_on book of [] legal declared here = tt
 all_lead_on book of (edge ∷ edges) legal declared here =
@@ -129,19 +137,23 @@ resource_leads : (book : Book) (of : Resource) → IsLegal book → AreTrue (map
 resource_leads book of legal = by (is_declared (rows_of book) of) refl
   where
     by : (b : Bool) → is_declared (rows_of book) of ≡ b
-        → AreTrue (map (leads_on book of) (if b then edges_by (status_at book of) (version_of (rows_of book) of) else []))
+        → AreTrue (map (leads_on book of)
+        (if b then edges_by (status_at book of) (version_of (rows_of book) of) else []))
     by true declared =
         all_lead_on book of (edges_by (status_at book of) (version_of (rows_of book) of)) legal declared
         (all_here (status_at book of) (version_of (rows_of book) of))
     by false declared = tt
 
-more_true : (book : Book) (of : Resource) (trials : TrialData) → IsLegal book → AreTrue trials.leads → AreTrue (with_resource book of trials).leads
+more_true : (book : Book) (of : Resource) (trials : TrialData) → IsLegal book → AreTrue trials.leads
+    → AreTrue (with_resource book of trials).leads
 unfolding with_resource with_edges
-more_true book of trials legal h = true_append trials.leads (map (leads_on book of) (edges_of book of)) h (resource_leads book of legal)
+more_true book of trials legal h = true_append trials.leads (map (leads_on book of) (edges_of book of))
+    h (resource_leads book of legal)
 
 -- no edge of a legal book's drill fails
 pub none_fail : (book : Book) → IsLegal book → failures_in (trials_of book).leads ≡ 0
 unfolding trials_of
 none_fail book legal =
     none_fails (trials_of book).leads
-    (more_true book _ _ legal (more_true book _ _ legal (more_true book _ (record { bodies = []; leads = [] }) legal tt)))
+    (more_true book _ _ legal (more_true book _ _
+    legal (more_true book _ (record { bodies = []; leads = [] }) legal tt)))

@@ -3,6 +3,7 @@ pub mod EditLemmas
 pub mod BookLemmas
 pub mod DepthLemmas
 pub mod TextLemmas
+pub mod ObjectLemmas
 pub mod TreeLemmas
 pub mod ReadLemmas
 pub mod EdgeLemmas

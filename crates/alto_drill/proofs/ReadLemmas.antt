@@ -18,10 +18,12 @@ pub read_as : (value : Result Data TreeFault) (d e : Data) → Some e ≡ result
 read_as value d e read is = let some : Some e ≡ Some d = read ∙ ap result_ok is in cc
 
 -- operations are read of what is written of them
-pub said_once : (said : Data) (changes others : List Operation) → said ≡ operations_data changes → SaysAll said others → others ≡ changes
+pub said_once : (said : Data) (changes others : List Operation) → said ≡ operations_data changes → SaysAll said others
+    → others ≡ changes
 said_once said changes others is says = (read_back changes).only others (subst (λ d. SaysAll d others) is says)
 
 -- and it is at no fault
-pub no_fault : (said : Data) (changes : List Operation) (fault : OpsFault) (k : ℕ) → said ≡ operations_data changes → fault ≡ BadOp k → IsFaultOf said fault → ⊥
+pub no_fault : (said : Data) (changes : List Operation) (fault : OpsFault) (k : ℕ) → said ≡ operations_data changes
+    → fault ≡ BadOp k → IsFaultOf said fault → ⊥
 no_fault said changes fault k is bad at =
     (read_back changes).no_fault k (subst (λ d. IsFaultOf d (BadOp k)) is (subst (λ f. IsFaultOf said f) bad at))

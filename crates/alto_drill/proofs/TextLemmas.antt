@@ -1,5 +1,6 @@
 -- The texts in documents of good rows are in UTF-8.
-use Rattle.std.proofs.Common.{◌≡◌, ℕ, zero, suc, ◌^◌, ◌<◌, ◌≤◌, inl, inr, Bool, true, false, List, [], ◌∷◌, ◌++◌, length, get_or, Option, Some, None, Ok, Err, if◌then◌else◌, codes, decimal, refl, arith}
+use Rattle.std.proofs.Common.{◌≡◌, ℕ, zero, suc, ◌^◌, ◌<◌, ◌≤◌, inl, inr, Bool, true, false, List, [], ◌∷◌, ◌++◌}
+use Rattle.std.proofs.Common.{length, get_or, Option, Some, None, Ok, Err, if◌then◌else◌, codes, decimal, refl, arith}
 use Rattle.std.proofs.lemmas.Bool.Decides.{nat_tests}
 use Rattle.std.proofs.lemmas.Fmt.{IsAscii-decimal}
 use Rattle.std.proofs.lemmas.List.Elements.{All-weaker}
@@ -15,7 +16,8 @@ use Rattle.alto_addr.specs.declared.addr.Addr.TheVariants.{V4, V6}
 use Rattle.alto_addr.specs.declared.prefix.Prefix.{Prefix}
 use Rattle.alto_addr.specs.Text.{addr_text, groups_of, octets_of, prefix_text}
 use Rattle.alto_names.specs.declared.label.NameFault.{NameFault}
-use Rattle.alto_names.specs.Name.{first_bad, is_letter_or_digit, is_metric_byte, is_net_byte, is_pid_byte, IsEpoch, IsMetric, IsNetName, IsPidName, IsPropName, named, unless_bad}
+use Rattle.alto_names.specs.Name.{first_bad, is_letter_or_digit, is_metric_byte, is_net_byte, is_pid_byte, IsEpoch}
+use Rattle.alto_names.specs.Name.{IsMetric, IsNetName, IsPidName, IsPropName, named, unless_bad}
 use Rattle.alto_names.proofs.NameLemmas.{text_if_none_bad}
 use Rattle.alto_rows.specs.declared.entity.Entity.{Entity}
 use Rattle.alto_rows.specs.declared.entity.Entity.TheVariants as entity
@@ -24,7 +26,8 @@ use Rattle.alto_rows.specs.Good.{IsEntity}
 
 -- ---- names
 
-not_bad : (b : Bool) (fault : NameFault) (text : List ℕ) (bad : Option ℕ) → (if b then Err fault else unless_bad text bad) ≡ Ok text → None ≡ bad
+not_bad : (b : Bool) (fault : NameFault) (text : List ℕ) (bad : Option ℕ)
+    → (if b then Err fault else unless_bad text bad) ≡ Ok text → None ≡ bad
 not_bad true fault text bad h = cc
 not_bad false fault text None h = refl
 not_bad false fault text (Some place) h = cc
@@ -33,7 +36,8 @@ named_text : (alphabet : ℕ → Bool) (longest : ℕ) (text : List ℕ) → ((b
     → named alphabet longest text ≡ Ok text → IsUtf8 text
 named_text alphabet longest [] ascii h = cc
 named_text alphabet longest (byte ∷ text) ascii h =
-    text_if_none_bad alphabet (byte ∷ text) ascii (not_bad (nat_lt longest (length (byte ∷ text))) _ (byte ∷ text) (first_bad alphabet (byte ∷ text)) h)
+    text_if_none_bad alphabet (byte ∷ text) ascii (not_bad (nat_lt longest (length (byte ∷ text))) _ (byte ∷ text)
+    (first_bad alphabet (byte ∷ text)) h)
 
 pub net_text : (name : List ℕ) → IsNetName name → IsUtf8 name
 net_text name is = named_text is_net_byte 24 name (λ byte h. grind (arith, nat_tests)) is
@@ -97,9 +101,13 @@ groups_fit number small (suc (suc (suc (suc (suc (suc (suc (suc k)))))))) = omeg
 -- of addresses, prefixes and entities
 addr_is_text : (addr : Addr) → HasBits addr → IsUtf8 (addr_text addr)
 addr_is_text (V4 number) small =
-    IsUtf8-from_ascii _ (IsAscii-from_all _ (All-weaker IsDigitOrDot (λ c. c < 128) dotted_low _ (All-ipv4_text (octets_of number) (octets_fit number small))))
+    IsUtf8-from_ascii _ (IsAscii-from_all
+    _ (All-weaker IsDigitOrDot (λ c. c < 128) dotted_low
+    _ (All-ipv4_text (octets_of number) (octets_fit number small))))
 addr_is_text (V6 number) small =
-    IsUtf8-from_ascii _ (IsAscii-from_all _ (All-weaker IsHexOrColon (λ c. c < 128) hex_low _ (All-hex_groups_text (groups_of number) (groups_fit number small))))
+    IsUtf8-from_ascii _ (IsAscii-from_all
+    _ (All-weaker IsHexOrColon (λ c. c < 128) hex_low
+    _ (All-hex_groups_text (groups_of number) (groups_fit number small))))
 
 width_small : (addr : Addr) (len : ℕ) → len ≤ width_of addr → len < 2 ^ 64
 width_small (V4 number) len short = omega (arith, short)
@@ -122,7 +130,8 @@ block_is_text block bits = by (block.len == width_of block.addr)
     by true = addr_is_text block.addr bits
     by false = prefix_is_text block bits
 
-pub entity_is_text : (net : List ℕ) (entity : Entity) → IsNetName net → IsEntity entity → IsUtf8 (entity_text net entity)
+pub entity_is_text : (net : List ℕ) (entity : Entity) → IsNetName net → IsEntity entity
+    → IsUtf8 (entity_text net entity)
 entity_is_text net (entity.Block block) is bits =
     IsUtf8-append (type_tag block.addr) (block_text block) (tag_is_text block.addr) (block_is_text block bits)
 entity_is_text net (entity.Pid pid) is named =

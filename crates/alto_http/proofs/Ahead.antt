@@ -1,5 +1,6 @@
 -- Reading ahead, piece by piece.
-use Rattle.std.proofs.Common.{◌≡◌, ℕ, ◌+◌, ◌<◌, ◌≤◌, List, [], ◌++◌, length, take, drop, min, slice_range, Option, ap, sym, ◌∙◌, append_assoc, append-nil, length-append, arith}
+use Rattle.std.proofs.Common.{◌≡◌, ℕ, ◌+◌, ◌<◌, ◌≤◌, List, [], ◌++◌, length, take, drop, min, slice_range, Option, ap}
+use Rattle.std.proofs.Common.{sym, ◌∙◌, append_assoc, append-nil, length-append, arith}
 use Rattle.std.proofs.lemmas.List.{drop_all, take-append-drop}
 use Rattle.alto_http.specs.Link.{followed_by}
 use Rattle.alto_http.specs.Intake.{ReadsAhead, KeepsWhole}
@@ -7,7 +8,8 @@ use Rattle.alto_http.proofs.Links.{followed_by-followed_by}
 use Rattle.alto_http.proofs.Ranges.{range_more, swap_rests}
 
 -- one piece came after others
-pub ahead_more : (a b c : List ℕ) (l m n : Option (List ℕ)) → ReadsAhead a l b m → ReadsAhead b m c n → ReadsAhead a l c n
+pub ahead_more : (a b c : List ℕ) (l m n : Option (List ℕ)) → ReadsAhead a l b m → ReadsAhead b m c n
+    → ReadsAhead a l c n
 ahead_more a b c l m n before now = record {
   piece = before.piece ++ now.piece;
   behind = now.behind ∙ ap (λ xs. xs ++ now.piece) before.behind ∙ append_assoc a before.piece now.piece;
@@ -17,7 +19,8 @@ ahead_more a b c l m n before now = record {
 -- reading ahead loses nothing
 pub ahead_whole : (a b : List ℕ) (l m : Option (List ℕ)) → ReadsAhead a l b m → followed_by a l ≡ followed_by b m
 ahead_whole a b l m reads =
-    ap (followed_by a) reads.given ∙ followed_by-followed_by a reads.piece m ∙ ap (λ xs. followed_by xs m) (sym reads.behind)
+    ap (followed_by a) reads.given ∙ followed_by-followed_by a reads.piece m
+    ∙ ap (λ xs. followed_by xs m) (sym reads.behind)
 
 -- a piece that was read behind others in a buffer
 pub full_more : (first before after : Option (List ℕ)) (old new : List ℕ) (start at k : ℕ)
@@ -48,7 +51,8 @@ body_cut ahead into taken left left' n count short given =
     ∙ ap (λ xs. followed_by xs left') (sym (ap (λ xs. (ahead ++ taken) ++ xs) none ∙ append-nil (ahead ++ taken)))
 
 -- what was handed over and what then came are too short together
-pub joined_short : (ahead taken into : List ℕ) (n : ℕ) → n ≡ min (length ahead) (length into) → n + length taken < length into
+pub joined_short : (ahead taken into : List ℕ) (n : ℕ) → n ≡ min (length ahead) (length into)
+    → n + length taken < length into
     → length (ahead ++ taken) < length into
 joined_short ahead taken into n count short = simp length-append (omega arith)
 

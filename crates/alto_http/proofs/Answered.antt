@@ -1,5 +1,6 @@
 -- What a call answers of the bytes ahead holds of all the bytes.
-use Rattle.std.proofs.Common.{◌≡◌, ℕ, ◌+◌, ◌<◌, List, [], ◌++◌, length, take, drop, Option, Some, None, IfSome, refl, ap, sym, subst, ◌∙◌, append_assoc, append-nil, ◌≢◌, inl, inr}
+use Rattle.std.proofs.Common.{◌≡◌, ℕ, ◌+◌, ◌<◌, List, [], ◌++◌, length, take, drop, Option, Some, None, IfSome, refl}
+use Rattle.std.proofs.Common.{ap, sym, subst, ◌∙◌, append_assoc, append-nil, ◌≢◌, inl, inr}
 use Rattle.alto_http.specs.declared.fault.HeadFault.{HeadFault}
 use Rattle.alto_http.specs.declared.fault.HeadFault.TheVariants.{TooLarge, Cut, ReadFault}
 use Rattle.alto_http.specs.Link.{followed_by, IsAtEnd}
@@ -8,10 +9,12 @@ use Rattle.alto_http.specs.Request.{RequestData, Passes, FailsBy}
 use Rattle.alto_http.specs.Intake.{GivesBehind, GivesOnly}
 use Rattle.alto_http.specs.Splits.{IsHeadAt, IsTooLong, IsRefused, IsUnfinished, Begins, EndsInBody, EndsInside}
 use Rattle.alto_http.proofs.Links.{followed_by-followed_by}
-use Rattle.alto_http.proofs.Places.{head_at_some, head_at_append, head_bytes_append, behind_head_append, too_long_append}
+use Rattle.alto_http.proofs.Places.{head_at_some, head_at_append, head_bytes_append, behind_head_append}
+use Rattle.alto_http.proofs.Places.{too_long_append}
 
 pub refused_long : (whole : Option (List ℕ)) (ahead : List ℕ) (left : Option (List ℕ)) (fault : HeadFault)
-    → whole ≡ followed_by ahead left → IsTooLong ahead → fault ≡ TooLarge → IfSome whole (λ bytes. IsRefused bytes fault)
+    → whole ≡ followed_by ahead left → IsTooLong ahead → fault ≡ TooLarge
+    → IfSome whole (λ bytes. IsRefused bytes fault)
 refused_long whole ahead None fault is long e = rw is tt
 refused_long whole ahead (Some left) fault is long e = rw is (inl (too_long_append ahead left long, e))
 
@@ -30,7 +33,8 @@ pub at_end : (P : List ℕ → Type 0) (whole : Option (List ℕ)) (ahead : List
 at_end P whole ahead None is end holds = rw is tt
 at_end P whole ahead (Some left) is end holds = rw (is, end, append-nil) holds
 
-pub refused_head : (whole : Option (List ℕ)) (ahead : List ℕ) (left : Option (List ℕ)) (start size : ℕ) (fault : HeadFault)
+pub refused_head : (whole : Option (List ℕ)) (ahead : List ℕ) (left : Option (List ℕ)) (start size : ℕ)
+    (fault : HeadFault)
     → whole ≡ followed_by ahead left → IsHeadAt ahead start size → FailsBy (take size (drop start ahead)) fault
     → IfSome whole (λ bytes. IsRefused bytes fault)
 refused_head whole ahead None start size fault is at fails = rw is tt
@@ -39,11 +43,13 @@ refused_head whole ahead (Some left) start size fault is at fails =
       start,
       size,
       head_at_append ahead left start size (head_at_some ahead start size at) at,
-      let P : List ℕ → Type 0 = λ head. FailsBy head fault in subst P (sym (head_bytes_append ahead left start size at)) fails,
+      let P : List ℕ → Type 0 = λ head. FailsBy head fault in
+          subst P (sym (head_bytes_append ahead left start size at)) fails,
     ))
 
 -- a body that is shorter than its head says
-ends_in_body : (whole : Option (List ℕ)) (ahead : List ℕ) (left : Option (List ℕ)) (start size : ℕ) (request : RequestData) (long : ℕ)
+ends_in_body : (whole : Option (List ℕ)) (ahead : List ℕ) (left : Option (List ℕ)) (start size : ℕ)
+    (request : RequestData) (long : ℕ)
     → whole ≡ followed_by ahead left → IsHeadAt ahead start size → Passes (take size (drop start ahead)) request long
     → IfSome (followed_by (drop (start + size) ahead) left) (λ bytes. length bytes < long) → IfSome whole EndsInBody
 ends_in_body whole ahead None start size request long is at passes short = rw is tt
@@ -54,7 +60,8 @@ ends_in_body whole ahead (Some left) start size request long is at passes short 
       request,
       long,
       head_at_append ahead left start size (head_at_some ahead start size at) at,
-      (let P : List ℕ → Type 0 = λ head. Passes head request long in subst P (sym (head_bytes_append ahead left start size at)) passes),
+      (let P : List ℕ → Type 0 = λ head. Passes head request long in
+          subst P (sym (head_bytes_append ahead left start size at)) passes),
       rw (behind_head_append ahead left start size at) short,
     )
 
@@ -63,19 +70,22 @@ inside_body : (whole : Option (List ℕ)) → IfSome whole EndsInBody → IfSome
 inside_body None ends = ends
 inside_body (Some bytes) ends = inr ends
 
-pub cut_in_body : (whole : Option (List ℕ)) (ahead : List ℕ) (left : Option (List ℕ)) (start size : ℕ) (request : RequestData) (long : ℕ)
+pub cut_in_body : (whole : Option (List ℕ)) (ahead : List ℕ) (left : Option (List ℕ)) (start size : ℕ)
+    (request : RequestData) (long : ℕ)
     → whole ≡ followed_by ahead left → IsHeadAt ahead start size → Passes (take size (drop start ahead)) request long
     → IfSome (followed_by (drop (start + size) ahead) left) (λ bytes. length bytes < long) → IfSome whole EndsInside
 cut_in_body whole ahead left start size request long is at passes short =
     inside_body whole (ends_in_body whole ahead left start size request long is at passes short)
 
 -- the head passed for a request without a body, which it is too where the body is taken from a later one
-passes_bare : (head : List ℕ) (bare : RequestData) (long : ℕ) → Passes head bare long → Passes head (record bare { body = [] }) long
+passes_bare : (head : List ℕ) (bare : RequestData) (long : ℕ) → Passes head bare long
+    → Passes head (record bare { body = [] }) long
 passes_bare head bare long passes =
     let without_body : RequestData → RequestData = λ r. record r { body = [] } in
     (passes.0, passes.1, passes.2, passes.3, ap without_body passes.4, passes.5)
 
-pub begins_with : (whole : Option (List ℕ)) (ahead : List ℕ) (left : Option (List ℕ)) (ahead' : List ℕ) (left' : Option (List ℕ))
+pub begins_with : (whole : Option (List ℕ)) (ahead : List ℕ) (left : Option (List ℕ)) (ahead' : List ℕ)
+    (left' : Option (List ℕ))
     (start size : ℕ) (bare request : RequestData) (body : List ℕ) (long : ℕ)
     → whole ≡ followed_by ahead left → IsHeadAt ahead start size → Passes (take size (drop start ahead)) bare long
     → length body ≡ long → followed_by (drop (start + size) ahead) left ≡ followed_by (body ++ ahead') left'
@@ -83,7 +93,8 @@ pub begins_with : (whole : Option (List ℕ)) (ahead : List ℕ) (left : Option 
     → IfSome whole (λ bytes. (rest : List ℕ) × (followed_by ahead' left' ≡ Some rest) × Begins bytes request rest)
 begins_with whole ahead None ahead' left' start size bare request body long is at passes sized taken made = rw is tt
 begins_with whole ahead (Some left) ahead' None start size bare request body long is at passes sized taken made = cc
-begins_with whole ahead (Some left) ahead' (Some left') start size bare request body long is at passes sized taken made =
+begins_with whole ahead (Some left) ahead' (Some left') start size bare request body long is at passes
+    sized taken made =
     let behind : drop (start + size) ahead ++ left ≡ (body ++ ahead') ++ left' = cc in
     rw (is, made) (
       ahead' ++ left',
@@ -98,9 +109,11 @@ begins_with whole ahead (Some left) ahead' (Some left') start size bare request 
     )
 
 -- where a body didn't come whole, the bytes that came end inside it
-pub unfinished_body : (first : List ℕ) (old : Option (List ℕ)) (ahead : List ℕ) (left : Option (List ℕ)) (left' : Option (List ℕ))
+pub unfinished_body : (first : List ℕ) (old : Option (List ℕ)) (ahead : List ℕ) (left : Option (List ℕ))
+    (left' : Option (List ℕ))
     (start size : ℕ) (request : RequestData) (long : ℕ)
-    → followed_by first old ≡ followed_by ahead left → IsHeadAt ahead start size → Passes (take size (drop start ahead)) request long
+    → followed_by first old ≡ followed_by ahead left → IsHeadAt ahead start size
+    → Passes (take size (drop start ahead)) request long
     → GivesBehind (λ given. length given < long) (drop (start + size) ahead) left left'
     → GivesOnly EndsInBody first old left'
 unfinished_body first old ahead left left' start size request long is at passes (given, came, short) = (
@@ -111,5 +124,6 @@ unfinished_body first old ahead left left' start size request long is at passes 
 )
 
 -- bytes that end in a body are unfinished
-pub body_unfinished : (first : List ℕ) (old left' : Option (List ℕ)) → GivesOnly EndsInBody first old left' → GivesOnly IsUnfinished first old left'
+pub body_unfinished : (first : List ℕ) (old left' : Option (List ℕ)) → GivesOnly EndsInBody first old left'
+    → GivesOnly IsUnfinished first old left'
 body_unfinished first old left' (given, came, ends) = (given, came, inr (inr ends))

@@ -1,5 +1,6 @@
 -- Digits of a Content-Length.
-use Rattle.std.proofs.Common.{◌≡◌, ℕ, ◌+◌, ◌-◌, ◌*◌, ◌<◌, min, Bool, true, false, ◌&&◌, List, length, take, get_or, IsTrue, refl, sym, ◌∙◌, arith, tests}
+use Rattle.std.proofs.Common.{◌≡◌, ℕ, ◌+◌, ◌-◌, ◌*◌, ◌<◌, min, Bool, true, false, ◌&&◌, List, length, take, get_or}
+use Rattle.std.proofs.Common.{IsTrue, refl, sym, ◌∙◌, arith, tests}
 use Rattle.std.specs.Char.{is_ascii_digit}
 use Rattle.std.specs.Int.{IsInRange}
 use Rattle.std.specs.Str.Parse.{digits_value}
@@ -17,15 +18,18 @@ digit_range : (c : ℕ) → is_ascii_digit c ≡ true → IsInRange 48 57 c
 digit_range c h = grind (arith, tests)
 
 -- each byte of a decimal number is a digit
-pub digit_at : (digits : List ℕ) (i : ℕ) → IsTrue (is_decimal digits) → i < length digits → IsInRange 48 57 (get_or digits i 0)
+pub digit_at : (digits : List ℕ) (i : ℕ) → IsTrue (is_decimal digits) → i < length digits
+    → IsInRange 48 57 (get_or digits i 0)
 digit_at digits i is lt = by_test (is_ascii_digit (get_or digits i 0)) refl
   where
     by_test : (t : Bool) → is_ascii_digit (get_or digits i 0) ≡ t → IsInRange 48 57 (get_or digits i 0)
     by_test true digit = digit_range _ digit
-    by_test false other = absurd (false≢true (sym (list_all_at is_ascii_digit digits i 0 lt other) ∙ decimal_all _ _ is))
+    by_test false other = absurd (false≢true (sym (list_all_at is_ascii_digit digits i 0 lt other)
+        ∙ decimal_all _ _ is))
 
 -- a number that is capped, one digit on
-pub capped_more : (digits : List ℕ) (i size : ℕ) → IsTrue (is_decimal digits) → i < length digits → size ≡ min (digits_value 10 (take i digits)) 4194305
+pub capped_more : (digits : List ℕ) (i size : ℕ) → IsTrue (is_decimal digits) → i < length digits
+    → size ≡ min (digits_value 10 (take i digits)) 4194305
     → min (size * 10 + (get_or digits i 0 - 48)) 4194305 ≡ min (digits_value 10 (take (i + 1) digits)) 4194305
 capped_more digits i size is lt had =
     let range = digit_at digits i is lt in

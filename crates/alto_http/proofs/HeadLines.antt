@@ -2,7 +2,8 @@
 use Rattle.std.proofs.Common.{◌≡◌, ℕ, ◌+◌, ◌≤◌, List, [], ◌∷◌, ◌++◌, length, refl, ap, ◌∙◌, arith}
 use Rattle.std.proofs.lemmas.List.Sums.{sum_by-append}
 use Rattle.std.specs.List.{flat_map}
-use Rattle.httparse.specs.Grammar.{LineEnd, crlf, lf, print_end, Field, print_field, print_blank, print_version, print_section, RequestHead, ReadsRequest}
+use Rattle.httparse.specs.Grammar.{LineEnd, crlf, lf, print_end, Field, print_field, print_blank, print_version}
+use Rattle.httparse.specs.Grammar.{print_section, RequestHead, ReadsRequest}
 use Rattle.httparse.proofs.GrammarLemmas.{print_request-append}
 use Rattle.alto_http.specs.Head.{line_feeds}
 
@@ -24,7 +25,8 @@ line_each (f ∷ fields) =
     omega (arith, line_feeds-append (print_field f) (flat_map print_field fields), one_line f, line_each fields)
 
 -- a head of few lines has few fields
-pub few_fields : (bytes : List ℕ) (h : RequestHead) (rest : List ℕ) → ReadsRequest bytes h rest → line_feeds bytes ≤ 66 → length h.fields ≤ 64
+pub few_fields : (bytes : List ℕ) (h : RequestHead) (rest : List ℕ) → ReadsRequest bytes h rest → line_feeds bytes ≤ 66
+    → length h.fields ≤ 64
 few_fields bytes h rest reads few =
     let section = print_section h.fields h.last in
     let tail = print_end h.line_end ++ (section ++ rest) in
@@ -41,4 +43,19 @@ few_fields bytes h rest reads few =
     let g = line_feeds-append (print_end h.line_end) (section ++ rest) in
     let i = line_feeds-append section rest in
     let j = line_feeds-append (flat_map print_field h.fields) (print_end h.last) in
-    omega (arith, whole, a, b, c, d, e, f, g, i, j, line_feeds-end h.line_end, line_feeds-end h.last, line_each h.fields)
+    omega (
+      arith,
+      whole,
+      a,
+      b,
+      c,
+      d,
+      e,
+      f,
+      g,
+      i,
+      j,
+      line_feeds-end h.line_end,
+      line_feeds-end h.last,
+      line_each h.fields,
+    )

@@ -1,5 +1,6 @@
 -- One call on a link after another.
-use Rattle.std.proofs.Common.{◌≡◌, ℕ, ◌+◌, List, [], ◌++◌, take, drop, Option, Some, None, refl, ap, sym, ◌∙◌, append_assoc}
+use Rattle.std.proofs.Common.{◌≡◌, ℕ, ◌+◌, List, [], ◌++◌, take, drop, Option, Some, None, refl, ap, sym, ◌∙◌}
+use Rattle.std.proofs.Common.{append_assoc}
 use Rattle.std.proofs.Math.Seq.{take-add}
 use Rattle.alto_http.specs.Link.{extended, followed_by}
 
@@ -18,7 +19,8 @@ extended_more out before after bytes at k h put =
     ∙ ap (extended out) (sym (take-add at k bytes))
 
 -- bytes that follow others
-pub followed_by-followed_by : (a b : List ℕ) (left : Option (List ℕ)) → followed_by a (followed_by b left) ≡ followed_by (a ++ b) left
+pub followed_by-followed_by : (a b : List ℕ) (left : Option (List ℕ))
+    → followed_by a (followed_by b left) ≡ followed_by (a ++ b) left
 followed_by-followed_by a b None = refl
 followed_by-followed_by a b (Some left) = ap Some (sym (append_assoc a b left))
 

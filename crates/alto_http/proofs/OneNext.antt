@@ -1,12 +1,14 @@
 -- Bytes begin with one request at most, or end unambiguously, and split unambiguously.
-use Rattle.std.proofs.Common.{◌≡◌, ℕ, ◌+◌, ◌-◌, ◌≤◌, List, [], ◌∷◌, ◌++◌, length, take, drop, Ok, Err, refl, ap, sym, subst, ◌∙◌, inl, inr, ⊎_elim, append_assoc, arith, length-append}
+use Rattle.std.proofs.Common.{◌≡◌, ℕ, ◌+◌, ◌-◌, ◌≤◌, List, [], ◌∷◌, ◌++◌, length, take, drop, Ok, Err, refl, ap, sym}
+use Rattle.std.proofs.Common.{subst, ◌∙◌, inl, inr, ⊎_elim, append_assoc, arith, length-append}
 use Rattle.std.proofs.lemmas.Bool.{cases_order, false≢true}
 use Rattle.std.proofs.lemmas.List.{take-append-drop}
 use Rattle.httparse.proofs.GrammarLemmas.{request_unique}
 use Rattle.alto_http.specs.declared.fault.HeadFault.{HeadFault}
 use Rattle.alto_http.specs.Head.{breaks_before, HasNoEnd, IsHeadEnd}
 use Rattle.alto_http.specs.Request.{RequestData, Passes, FailsBy, request_of, length_after}
-use Rattle.alto_http.specs.Splits.{IsHeadAt, IsBlank, IsTooLong, EndsInHead, EndsInside, IsRefused, Begins, clean, closed, cut, refused, Splits}
+use Rattle.alto_http.specs.Splits.{IsHeadAt, IsBlank, IsTooLong, EndsInHead, EndsInside, IsRefused, Begins, clean}
+use Rattle.alto_http.specs.Splits.{closed, cut, refused, Splits}
 use Rattle.alto_http.specs.Laws.{BeginIsOne, BeginIsNoEnd, BeginIsWhole, EndIsOne, SplitIsOne}
 use Rattle.alto_http.proofs.Places.{head_at_some}
 
@@ -37,14 +39,16 @@ place_is_one bytes start size start' size' at at' =
 head_not_long : (bytes : List ℕ) (start size : ℕ) → IsHeadAt bytes start size → IsTooLong bytes → ⊥
 head_not_long bytes start size at long =
     let P : ℕ → Type 0 = λ k. IsHeadEnd (drop k bytes) size in
-    end_is_there (drop (breaks_before bytes) bytes) size (16384 - breaks_before bytes) (subst P at.behind_breaks at.ends)
+    end_is_there (drop (breaks_before bytes) bytes) size (16384 - breaks_before bytes)
+    (subst P at.behind_breaks at.ends)
     (omega (arith, at.within, at.behind_breaks)) long.1
 
 head_not_cut : (bytes : List ℕ) (start size : ℕ) → IsHeadAt bytes start size → EndsInHead bytes → ⊥
 head_not_cut bytes start size at ends =
     let P : ℕ → Type 0 = λ k. IsHeadEnd (drop k bytes) size in
     let here : IsHeadEnd (drop (breaks_before bytes) bytes) size = subst P at.behind_breaks at.ends in
-    end_is_there (drop (breaks_before bytes) bytes) size (length (drop (breaks_before bytes) bytes)) here here.within ends.2
+    end_is_there (drop (breaks_before bytes) bytes) size (length (drop (breaks_before bytes) bytes)) here
+    here.within ends.2
 
 head_not_blank : (bytes : List ℕ) (start size : ℕ) → IsHeadAt bytes start size → IsBlank bytes → ⊥
 head_not_blank bytes start size at blank =
@@ -52,13 +56,15 @@ head_not_blank bytes start size at blank =
 
 -- ---- what a head says
 
-passes_one : (head : List ℕ) (one other : RequestData) (n m : ℕ) → Passes head one n → Passes head other m → (one ≡ other) × (n ≡ m)
+passes_one : (head : List ℕ) (one other : RequestData) (n m : ℕ) → Passes head one n → Passes head other m
+    → (one ≡ other) × (n ≡ m)
 passes_one head one other n m a b =
     let same = (request_unique head a.0 b.0 a.1 b.1 a.2 b.2).0 in
     let sized : Ok n ≡ Ok m = sym a.5 ∙ ap length_after same ∙ b.5 in
     (a.4 ∙ ap request_of same ∙ sym b.4, cc)
 
-passes_not_fails : (head : List ℕ) (request : RequestData) (n : ℕ) (fault : HeadFault) → Passes head request n → FailsBy head fault → ⊥
+passes_not_fails : (head : List ℕ) (request : RequestData) (n : ℕ) (fault : HeadFault) → Passes head request n
+    → FailsBy head fault → ⊥
 passes_not_fails head request n fault a fails =
     ⊎_elim (λ f. absurd (omega (arith, f.0, a.3)))
     (λ other. ⊎_elim (λ f. f.1 a.0 a.1 a.2)
@@ -95,7 +101,8 @@ cut_one (x ∷ a) (y ∷ b) r s long whole =
     (cc (cut.0, first), cut.1)
 
 -- what is said of the bytes of a head, at another place of it
-at_place : (P : List ℕ → Type 0) (bytes : List ℕ) (start size start' size' : ℕ) → IsHeadAt bytes start size → IsHeadAt bytes start' size'
+at_place : (P : List ℕ → Type 0) (bytes : List ℕ) (start size start' size' : ℕ) → IsHeadAt bytes start size
+    → IsHeadAt bytes start' size'
     → P (take size' (drop start' bytes)) → P (take size (drop start bytes))
 at_place P bytes start size start' size' at at' said =
     let place = place_is_one bytes start size start' size' at at' in
@@ -116,8 +123,10 @@ bare request = record request { body = [] }
 pub begin_is_one : BeginIsOne
 unfolding bare
 begin_is_one bytes one other rest remainder a b =
-    let same = passes_one (take a.size (drop a.start bytes)) (bare one) (bare other) (length one.body) (length other.body) a.passes
-    (at_place (λ head. Passes head (bare other) (length other.body)) bytes a.start a.size b.start b.size a.head b.head b.passes) in
+    let same = passes_one (take a.size (drop a.start bytes)) (bare one) (bare other) (length one.body)
+    (length other.body) a.passes
+    (at_place (λ head. Passes head (bare other) (length other.body)) bytes a.start a.size b.start b.size a.head
+    b.head b.passes) in
     let behind : one.body ++ rest ≡ other.body ++ remainder =
     sym a.body ∙ behind_one bytes a.start a.size b.start b.size a.head b.head ∙ b.body in
     let bodies = cut_one one.body other.body rest remainder same.1 behind in
@@ -128,12 +137,18 @@ begin_is_one bytes one other rest remainder a b =
 pub begin_is_whole : BeginIsWhole
 begin_is_whole bytes request rest a =
     let n = a.start + a.size in
-    let parts = ap (λ behind. take n bytes ++ behind) a.body in
-    (a.start, a.size, a.head, sym (take-append-drop n bytes) ∙ parts ∙ sym (append_assoc (take n bytes) request.body rest))
+    let parts = ap (λ behind. take n bytes ++ behind) a.body in (
+      a.start,
+      a.size,
+      a.head,
+      sym (take-append-drop n bytes) ∙ parts
+          ∙ sym (append_assoc (take n bytes) request.body rest),
+    )
 
 -- ---- what bytes end in
 
-body_not_cut : (bytes : List ℕ) (request : RequestData) (rest : List ℕ) → Begins bytes request rest → EndsInside bytes → ⊥
+body_not_cut : (bytes : List ℕ) (request : RequestData) (rest : List ℕ) → Begins bytes request rest
+    → EndsInside bytes → ⊥
 unfolding bare
 body_not_cut bytes request rest a (inl head) = head_not_cut bytes a.start a.size a.head head
 body_not_cut bytes request rest a (inr c) =
@@ -142,7 +157,8 @@ body_not_cut bytes request rest a (inr c) =
     let behind = ap length (sym a.body ∙ behind_one bytes a.start a.size c.0 c.1 a.head c.4) in
     absurd (omega (arith, same.1, behind, length-append request.body rest, c.6))
 
-begin_not_refused : (bytes : List ℕ) (request : RequestData) (rest : List ℕ) (fault : HeadFault) → Begins bytes request rest → IsRefused bytes fault → ⊥
+begin_not_refused : (bytes : List ℕ) (request : RequestData) (rest : List ℕ) (fault : HeadFault)
+    → Begins bytes request rest → IsRefused bytes fault → ⊥
 unfolding bare
 begin_not_refused bytes request rest fault a (inl f) = head_not_long bytes a.start a.size a.head f.0
 begin_not_refused bytes request rest fault a (inr f) =
@@ -210,7 +226,8 @@ split_is_one bytes (request ∷ requests) (second ∷ others) ending other a b =
     b.2)
     (λ more. ⊎_elim
     (λ last'. absurd (false≢true (sym more.0 ∙ close ∙ last'.0)))
-    (λ more'. let rests = split_is_one a.0 requests others ending other more.1 (subst (λ rest. Splits rest others other) (sym same.1) more'.1) in
+    (λ more'. let rests = split_is_one a.0 requests others ending other
+    more.1 (subst (λ rest. Splits rest others other) (sym same.1) more'.1) in
     (cc (same.0, rests.0), rests.1))
     b.2)
     a.2

@@ -1,8 +1,10 @@
 -- Ranges of a buffer.
-use Rattle.std.proofs.Common.{◌≡◌, ℕ, ◌+◌, ◌-◌, ◌≤◌, min, List, ◌++◌, length, take, drop, slice_range, ap, sym, ◌∙◌, append_assoc, append-nil, arith, ⊎_elim, length-take}
+use Rattle.std.proofs.Common.{◌≡◌, ℕ, ◌+◌, ◌-◌, ◌≤◌, min, List, ◌++◌, length, take, drop, slice_range, ap, sym, ◌∙◌}
+use Rattle.std.proofs.Common.{append_assoc, append-nil, arith, ⊎_elim, length-take}
 use Rattle.std.proofs.lemmas.Bool.{cases_lt}
 use Rattle.std.proofs.Math.Seq.{take-add}
-use Rattle.std.proofs.lemmas.List.{drop-take, drop-drop, take_at, drop-append-le, take_all, drop_all, take-append-drop, take-take, length-drop}
+use Rattle.std.proofs.lemmas.List.{drop-take, drop-drop, take_at, drop-append-le, take_all, drop_all, take-append-drop}
+use Rattle.std.proofs.lemmas.List.{take-take, length-drop}
 
 -- the same range, as what is dropped from the range up to its end
 range_split : (xs : List ℕ) (start end : ℕ) → start ≤ end → drop start (take end xs) ≡ slice_range xs start end
@@ -11,7 +13,8 @@ range_split xs start end h =
     ap (λ n. drop start (take n xs)) (sym e) ∙ drop-take start (end - start) xs
 
 -- a range without its first bytes
-pub range_from : (xs : List ℕ) (start end n : ℕ) → n ≤ end - start → slice_range xs (start + n) end ≡ drop n (slice_range xs start end)
+pub range_from : (xs : List ℕ) (start end n : ℕ) → n ≤ end - start
+    → slice_range xs (start + n) end ≡ drop n (slice_range xs start end)
 range_from xs start end n h =
     let e : n + (end - (start + n)) ≡ end - start = omega arith in
     sym (ap (λ m. drop n (take m (drop start xs))) (sym e)
@@ -20,7 +23,8 @@ range_from xs start end n h =
 
 -- a range that was rotated to the front
 pub rotated_front : (xs : List ℕ) (start end : ℕ) → start ≤ end → end ≤ length xs
-    → take (end - start) ((drop start (take end xs) ++ take start (take end xs)) ++ drop end xs) ≡ slice_range xs start end
+    → take (end - start) ((drop start (take end xs) ++ take start (take end xs)) ++ drop end xs)
+    ≡ slice_range xs start end
 rotated_front xs start end h w =
     let long : length (drop start (take end xs)) ≡ end - start =
     simp (length-drop, length-take) (omega arith) in
@@ -44,7 +48,8 @@ pub refilled : (xs ys zs : List ℕ) (start end k : ℕ)
     → take (end - start) ys ≡ slice_range xs start end → take (end - start) zs ≡ take (end - start) ys
     → slice_range zs 0 (end - start + k) ≡ slice_range xs start end ++ slice_range zs (end - start) (end - start + k)
 refilled xs ys zs start end k moved kept =
-    range_joined zs (end - start) k ∙ ap (λ front. front ++ slice_range zs (end - start) (end - start + k)) (kept ∙ moved)
+    range_joined zs (end - start) k
+    ∙ ap (λ front. front ++ slice_range zs (end - start) (end - start + k)) (kept ∙ moved)
 
 -- a range that goes on where the bytes before it stay
 pub range_more : (old new : List ℕ) (start at k : ℕ) → start ≤ at → at + k ≤ length new → take at new ≡ take at old
@@ -88,6 +93,8 @@ range_to_end xs start =
     take_all (length xs - start) (drop start xs) h
 
 -- what is left is a prefix of it and what is left behind that
-pub given_front : (xs front : List ℕ) (given k : ℕ) → front ≡ take k (drop given xs) → drop given xs ≡ front ++ drop (given + k) xs
+pub given_front : (xs front : List ℕ) (given k : ℕ) → front ≡ take k (drop given xs)
+    → drop given xs ≡ front ++ drop (given + k) xs
 given_front xs front given k is =
-    sym (take-append-drop k (drop given xs)) ∙ ap (λ a. a ++ drop k (drop given xs)) (sym is) ∙ ap (λ a. front ++ a) (drop-drop k given xs)
+    sym (take-append-drop k (drop given xs)) ∙ ap (λ a. a ++ drop k (drop given xs)) (sym is)
+    ∙ ap (λ a. front ++ a) (drop-drop k given xs)

@@ -1,9 +1,11 @@
 -- A refusal is by one of the checks.
-use Rattle.std.proofs.Common.{◌≡◌, ℕ, Bool, true, false, if◌then◌else◌, List, [], ◌∷◌, is_some, Result, Ok, Err, nat_le, refl, ap, sym, ◌∙◌, inl, inr, codes}
+use Rattle.std.proofs.Common.{◌≡◌, ℕ, Bool, true, false, if◌then◌else◌, List, [], ◌∷◌, is_some, Result, Ok, Err, nat_le}
+use Rattle.std.proofs.Common.{refl, ap, sym, ◌∙◌, inl, inr, codes}
 use Rattle.std.specs.Str.Parse.{digits_value}
 use Rattle.std.proofs.lemmas.Bool.{false≢true}
 use Rattle.alto_http.specs.declared.fault.HeadFault.{HeadFault}
-use Rattle.alto_http.specs.declared.fault.HeadFault.TheVariants.{TooLarge, BadHead, Coded, NoLength, BodyTooLarge, Cut, ReadFault, Memory}
+use Rattle.alto_http.specs.declared.fault.HeadFault.TheVariants.{TooLarge, BadHead, Coded, NoLength, BodyTooLarge, Cut}
+use Rattle.alto_http.specs.declared.fault.HeadFault.TheVariants.{ReadFault, Memory}
 use Rattle.alto_http.specs.Fields.{values_of, first, body_limit, is_decimal, length_of_body}
 use Rattle.alto_http.specs.Request.{FailsBy, is_post, verb_of, fields_of}
 use Rattle.alto_http.specs.Splits.{IsRefused}
@@ -27,18 +29,21 @@ same_fault : (one other : HeadFault) → is_by_check one ≡ true → Refuses (E
 same_fault one other is e = let faults : other ≡ one = cc in ap is_by_check faults ∙ is
 
 said_by_check : (decimal within : Bool) (n : ℕ) (fault : HeadFault)
-    → Refuses (if decimal then (if within then Ok n else Err BodyTooLarge) else Err BadHead) fault → is_by_check fault ≡ true
+    → Refuses (if decimal then (if within then Ok n else Err BodyTooLarge) else Err BadHead) fault
+    → is_by_check fault ≡ true
 unfolding is_by_check
 said_by_check true true n fault e = cc
 said_by_check true false n fault e = same_fault BodyTooLarge fault refl e
 said_by_check false within n fault e = same_fault BadHead fault refl e
 
-no_length_by_check : (post : Bool) (fault : HeadFault) → Refuses (if post then Err NoLength else Ok 0) fault → is_by_check fault ≡ true
+no_length_by_check : (post : Bool) (fault : HeadFault) → Refuses (if post then Err NoLength else Ok 0) fault
+    → is_by_check fault ≡ true
 unfolding is_by_check
 no_length_by_check true fault e = same_fault NoLength fault refl e
 no_length_by_check false fault e = cc
 
-length_by_check : (post : Bool) (values : List (List ℕ)) (fault : HeadFault) → Refuses (length_of_body post values) fault → is_by_check fault ≡ true
+length_by_check : (post : Bool) (values : List (List ℕ)) (fault : HeadFault)
+    → Refuses (length_of_body post values) fault → is_by_check fault ≡ true
 unfolding is_by_check
 length_by_check post [] fault e = no_length_by_check post fault e
 length_by_check post (value ∷ []) fault e =

@@ -48,7 +48,8 @@ is_decimal value = nat_lt 0 (length value) && list_all is_ascii_digit value
 -- the length that a Content-Length says
 abbrev pub length_said : List ℕ → Result ℕ HeadFault
 length_said value =
-    if is_decimal value then (if nat_le (digits_value 10 value) body_limit then Ok (digits_value 10 value) else Err BodyTooLarge)
+    if is_decimal value
+    then (if nat_le (digits_value 10 value) body_limit then Ok (digits_value 10 value) else Err BodyTooLarge)
     else Err BadHead
 
 -- the length of the body where these are the values of Content-Length: a POST has one

@@ -14,7 +14,8 @@ breaks_before bytes = prefix_len is_break bytes
 
 -- the bytes end in an empty line: LF LF, or LF CR LF
 abbrev pub ends_in_empty_line : List ℕ → Bool
-ends_in_empty_line bytes = ends_with nat_eq bytes (line_feed ∷ line_feed ∷ []) || ends_with nat_eq bytes (line_feed ∷ crlf_bytes)
+ends_in_empty_line bytes =
+    ends_with nat_eq bytes (line_feed ∷ line_feed ∷ []) || ends_with nat_eq bytes (line_feed ∷ crlf_bytes)
 
 -- no prefix of up to n bytes ends in an empty line
 abbrev pub HasNoEnd : ℕ → List ℕ → Type 0

@@ -13,7 +13,9 @@ BeginIsOne = (bytes : List ℕ) (one other : RequestData) (rest remainder : List
 
 -- bytes that begin with a request are no end
 abbrev pub BeginIsNoEnd : Type 0
-BeginIsNoEnd = (bytes : List ℕ) (request : RequestData) (rest : List ℕ) (ending : Ending) → Begins bytes request rest → Ends bytes ending → ⊥
+BeginIsNoEnd =
+    (bytes : List ℕ) (request : RequestData) (rest : List ℕ) (ending : Ending)
+    → Begins bytes request rest → Ends bytes ending → ⊥
 
 -- how bytes end is unambiguous: blank, cut, or refused by one fault
 abbrev pub EndIsOne : Type 0

@@ -23,7 +23,8 @@ read_fails link = list_any (λ call. call == link.reads) link.failing_reads
 -- a write of a nonempty piece fails: its number is one of those named, or no room is left
 abbrev pub write_fails : MemLinkData → List ℕ → Bool
 write_fails link piece =
-    nat_lt 0 (length piece) && (list_any (λ call. call == link.writes) link.failing_writes || nat_le link.room (length link.out))
+    nat_lt 0 (length piece)
+    && (list_any (λ call. call == link.writes) link.failing_writes || nat_le link.room (length link.out))
 
 -- the most bytes that the read of this number gives: the sizes in turn, again and again, a 0 counting as 1; without
 -- sizes all that fit

@@ -154,7 +154,8 @@ pub(crate) fn length_of_body(
     is_post: bool,
 ) -> Result<usize, HeadFault>
     requires { All (IsHeaderWithin (length bytes.now)) fields.now }
-    ensures { result ≡ length_of_body is_post (values_of (codes "content-length") (map (header_bytes bytes.now) fields.now)) }
+    ensures { result ≡ length_of_body is_post
+        (values_of (codes "content-length") (map (header_bytes bytes.now) fields.now)) }
 {
     match only_value(bytes, fields, b"content-length") {
         Err(fault) => Err(fault),

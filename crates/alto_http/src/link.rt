@@ -53,7 +53,8 @@ pub(crate) fn read_behind<L: Link>(
     requires { end < length buffer.old }
     ensures within { IfOk result (λ k. end + k ≤ length buffer.new) }
     ensures front { take end buffer.new ≡ take end buffer.old }
-    ensures given { IfOk result (λ k. L.left link.old ≡ followed_by (slice_range buffer.new end (end + k)) (L.left link.new)) }
+    ensures given { IfOk result (λ k. L.left link.old
+        ≡ followed_by (slice_range buffer.new end (end + k)) (L.left link.new)) }
     ensures at_end { IfOk result (λ k. k ≡ 0 → IsAtEnd (L.left link.new)) }
     ensures refused { OnErr result (L.left link.new ≡ L.left link.old) }
 

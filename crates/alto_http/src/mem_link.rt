@@ -43,7 +43,8 @@ impl Model for MemLink {
       failed_writes = m.failed_writes;
     } };
 
-    ghost invariant = { λ m. (m.given ≤ vec_len m.input) × (vec_len m.output ≤ m.room) × (m.room ≤ vec_capacity m.output) };
+    ghost invariant = { λ m. (m.given ≤ vec_len m.input) × (vec_len m.output ≤ m.room)
+        × (m.room ≤ vec_capacity m.output) };
 }
 
 impl MemLink {

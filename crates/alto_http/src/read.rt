@@ -26,7 +26,8 @@ pub fn read_request<L: Link>(
     ensures refused { IfErr result (λ e. (e ≢ HeadFault.Cut) → (e ≢ HeadFault.ReadFault) → (e ≢ HeadFault.Memory)
         → IfSome (followed_by intake.old (L.left link.old)) (λ bytes. IsRefused bytes e)) }
     ensures cut { IsErrOf result HeadFault.Cut → IfSome (followed_by intake.old (L.left link.old)) EndsInside }
-    ensures unfinished { IsErrOf result HeadFault.ReadFault → GivesOnly IsUnfinished intake.old (L.left link.old) (L.left link.new) }
+    ensures unfinished { IsErrOf result HeadFault.ReadFault
+        → GivesOnly IsUnfinished intake.old (L.left link.old) (L.left link.new) }
 
     // Bytes are taken from the front, and none are lost.
     ensures whole { KeepsWhole intake.old (L.left link.old) intake.new (L.left link.new) }

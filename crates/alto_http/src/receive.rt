@@ -126,7 +126,8 @@ fn fill_body<L: Link>(intake: &mut Intake, link: &mut L, into: &mut [u8]) -> Res
     ensures err { OnErr result (KeepsWhole intake.old (L.left link.old) intake.new (L.left link.new)) }
     ensures cut { IsErrOf result HeadFault.Cut → IsAtEnd (L.left link.new)
         × IfSome (followed_by intake.old (L.left link.old)) (λ bytes. length bytes < length into.new) }
-    ensures short { OnErr result (GivesBehind (λ given. length given < length into.new) intake.old (L.left link.old) (L.left link.new)) }
+    ensures short { OnErr result (GivesBehind (λ given. length given < length into.new)
+        intake.old (L.left link.old) (L.left link.new)) }
     ensures causes { IfErr result (λ e. (e ≡ HeadFault.Cut) ⊎ (e ≡ HeadFault.ReadFault)) }
 
     ensures counted { L.failed_reads link.new ≡ reads_after result (L.failed_reads link.old) }

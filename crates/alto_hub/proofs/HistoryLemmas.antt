@@ -18,7 +18,8 @@ all_behind : {A : Type 0} (P : A → Type 0) (xs ys : List A) → All P (xs ++ y
 all_behind P [] ys all = all
 all_behind P (x ∷ xs) ys all = all_behind P xs ys (All-tail P x (xs ++ ys) all)
 
-legal_after : (book : Book) (log : List Submitted) → IsLegal book → All AreEdits log → IsLegal (fold book_after book log)
+legal_after : (book : Book) (log : List Submitted) → IsLegal book → All AreEdits log
+    → IsLegal (fold book_after book log)
 legal_after book [] legal edits = legal
 legal_after book ((import, moment) ∷ log) legal edits =
     legal_after (accept book import moment).book log
@@ -38,8 +39,10 @@ unfolding book_at
 book_none opening = refl
 
 -- one import more
-pub log_more : (opening : Book) (log : List Submitted) (import : Submitted) → IsLog opening log → All IsEdit import.0.edits → IsLog opening (log ++ import ∷ [])
-log_more opening log import led edits = record { legal = led.legal; edits = All-push AreEdits log import led.edits edits }
+pub log_more : (opening : Book) (log : List Submitted) (import : Submitted) → IsLog opening log
+    → All IsEdit import.0.edits → IsLog opening (log ++ import ∷ [])
+log_more opening log import led edits =
+    record { legal = led.legal; edits = All-push AreEdits log import led.edits edits }
 
 pub book_more : (opening : Book) (log : List Submitted) (import : Submitted)
     → book_at opening (log ++ import ∷ []) ≡ (accept (book_at opening log) import.0 import.1).book
@@ -47,14 +50,17 @@ unfolding book_at
 book_more opening log import = fold-append book_after opening log (import ∷ [])
 
 -- a book grew from the one of the first imports
-pub grown_since : (opening : Book) (seen log : List Submitted) → IsLog opening log → IsPrefix seen log → IsGrown (book_at opening log) (book_at opening seen)
+pub grown_since : (opening : Book) (seen log : List Submitted) → IsLog opening log → IsPrefix seen log
+    → IsGrown (book_at opening log) (book_at opening seen)
 unfolding book_at
 grown_since opening seen log led (rest, whole) = record {
   imports = rest;
   edits = all_behind AreEdits seen rest (subst (λ (l : List Submitted). All AreEdits l) (sym whole) led.edits);
-  whole = subst (λ (l : List Submitted). fold book_after opening l ≡ fold book_after (fold book_after opening seen) rest) whole (fold-append book_after opening seen rest);
+  whole = subst (λ (l : List Submitted). fold book_after opening l ≡ fold book_after (fold book_after opening seen)
+      rest) whole (fold-append book_after opening seen rest);
 }
 
-pub grown_since_opening : (opening : Book) (log : List Submitted) → IsLog opening log → IsGrown (book_at opening log) opening
+pub grown_since_opening : (opening : Book) (log : List Submitted) → IsLog opening log
+    → IsGrown (book_at opening log) opening
 unfolding book_at
 grown_since_opening opening log led = grown_since opening [] log led (log, refl)

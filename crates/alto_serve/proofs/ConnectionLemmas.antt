@@ -1,5 +1,6 @@
 -- A connection's requests one after another, and its end.
-use Rattle.std.proofs.Common.{◌≡◌, ◌≢◌, ℕ, ◌+◌, ◌<◌, List, [], ◌∷◌, ◌++◌, length, Option, Some, None, refl, sym, ap, ◌∙◌, inl, inr, length-append, append_assoc, append-nil, arith}
+use Rattle.std.proofs.Common.{◌≡◌, ◌≢◌, ℕ, ◌+◌, ◌<◌, List, [], ◌∷◌, ◌++◌, length, Option, Some, None, refl, sym, ap}
+use Rattle.std.proofs.Common.{◌∙◌, inl, inr, length-append, append_assoc, append-nil, arith}
 use Rattle.std.proofs.lemmas.Grind.{flat_map-append}
 use Rattle.std.proofs.lemmas.List.{length-map, map-append}
 use Rattle.std.proofs.lemmas.List.Elements.{All-append, All-nil, All-push}
@@ -10,7 +11,8 @@ use Rattle.alto_http.specs.Splits.{Ending, cut, Splits}
 use Rattle.alto_http.proofs.Fronts.{begin_needs_no_more}
 use Rattle.alto_serve.specs.declared.end.End.{End}
 use Rattle.alto_serve.specs.declared.end.End.TheVariants as end
-use Rattle.alto_serve.specs.Connections.{BeginWithOpen, EmitsOnLink, Ended, IsServed, IsTurn, State, events_of, most_requests, open_ones, requests_of, state, trace_of}
+use Rattle.alto_serve.specs.Connections.{BeginWithOpen, EmitsOnLink, Ended, IsServed, IsTurn, State, events_of}
+use Rattle.alto_serve.specs.Connections.{most_requests, open_ones, requests_of, state, trace_of}
 use Rattle.alto_serve.specs.Events.{Event, Known, bytes_in}
 use Rattle.alto_serve.specs.Steps.{Becomes, Finishes, GoesOn, HasServed}
 use Rattle.alto_serve.specs.Turns.{Exchange, Setting}

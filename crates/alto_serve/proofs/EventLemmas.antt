@@ -1,5 +1,6 @@
 -- Events one after another.
-use Rattle.std.proofs.Common.{◌≡◌, ℕ, All, Bool, List, [], ◌∷◌, ◌++◌, fold, refl, sym, ap, ◌∙◌, subst, inl, inr, append_assoc, append-nil}
+use Rattle.std.proofs.Common.{◌≡◌, ℕ, All, Bool, List, [], ◌∷◌, ◌++◌, fold, refl, sym, ap, ◌∙◌, subst, inl, inr}
+use Rattle.std.proofs.Common.{append_assoc, append-nil}
 use Rattle.std.proofs.lemmas.List.Sums.{fold-append}
 use Rattle.std.proofs.lemmas.List.Elements.{All-append, All-cons, All-head, All-nil, All-tail}
 use Rattle.alto_edits.specs.Edits.{IsEdit}
@@ -8,7 +9,8 @@ use Rattle.alto_book.specs.Book.{Book, Extends}
 use Rattle.alto_book.specs.Import.{Import}
 use Rattle.alto_book.specs.Legal.{IsLegal}
 use Rattle.alto_book.proofs.AcceptanceLemmas.{accept_extends, accept_legal, extends_itself, extends_on}
-use Rattle.alto_serve.specs.Events.{Event, looked, entered, submitted, wrote, Known, known_after, MayHappen, IsGrown, IsHistory, Emits, PrefixOf, book_after, bytes_in}
+use Rattle.alto_serve.specs.Events.{Event, looked, entered, submitted, wrote, Known, known_after, MayHappen, IsGrown}
+use Rattle.alto_serve.specs.Events.{IsHistory, Emits, PrefixOf, book_after, bytes_in}
 
 -- ---- books
 

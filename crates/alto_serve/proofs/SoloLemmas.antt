@@ -1,5 +1,6 @@
 -- The office over one desk.
-use Rattle.std.proofs.Common.{◌≡◌, ◌≢◌, ℕ, true, [], ◌∷◌, Result, Ok, Err, IfOk, IfErr, OnOk, OnErr, refl, sym, ◌∙◌, inl, inr, All}
+use Rattle.std.proofs.Common.{◌≡◌, ◌≢◌, ℕ, true, [], ◌∷◌, Result, Ok, Err, IfOk, IfErr, OnOk, OnErr, refl, sym, ◌∙◌}
+use Rattle.std.proofs.Common.{inl, inr, All}
 use Rattle.alto_edits.specs.Edits.{IsEdit}
 use Rattle.alto_book.specs.Acceptance.{accept}
 use Rattle.alto_book.specs.Book.{Book}

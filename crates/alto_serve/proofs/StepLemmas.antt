@@ -1,5 +1,6 @@
 -- How a connection ends with the answer to a request, or with what is written of bytes that brought none.
-use Rattle.std.proofs.Common.{◌≡◌, ◌≢◌, ℕ, true, false, List, [], ◌∷◌, ◌++◌, take, Option, Some, None, IfSome, IsSome, refl, sym, ap, ◌∙◌, inl, inr, append-nil}
+use Rattle.std.proofs.Common.{◌≡◌, ◌≢◌, ℕ, true, false, List, [], ◌∷◌, ◌++◌, take, Option, Some, None, IfSome, IsSome}
+use Rattle.std.proofs.Common.{refl, sym, ap, ◌∙◌, inl, inr, append-nil}
 use Rattle.std.proofs.lemmas.Bool.{false≢true}
 use Rattle.std.proofs.lemmas.List.Elements.{All-cons, All-nil}
 use Rattle.std.proofs.lemmas.Option.{IfSome_then}

@@ -1,5 +1,6 @@
 -- A request's turn, event by event.
-use Rattle.std.proofs.Common.{◌≡◌, ◌⊎◌, ℕ, suc, Bool, true, false, List, [], ◌∷◌, ◌++◌, Option, Result, Ok, Err, OnErr, refl, sym, inl, inr, append-nil}
+use Rattle.std.proofs.Common.{◌≡◌, ◌⊎◌, ℕ, suc, Bool, true, false, List, [], ◌∷◌, ◌++◌, Option, Result, Ok, Err, OnErr}
+use Rattle.std.proofs.Common.{refl, sym, inl, inr, append-nil}
 use Rattle.std.proofs.lemmas.Bool.{false≢true}
 use Rattle.alto_book.specs.Book.{Book, number_of}
 use Rattle.alto_book.specs.Import.{Import}
@@ -13,9 +14,11 @@ use Rattle.alto_answers.specs.declared.outcome.Answer.TheVariants as answer
 use Rattle.alto_answers.specs.declared.client.Client.{Client}
 use Rattle.alto_replies.specs.Replies.{edit_reply, too_early}
 use Rattle.alto_replies.specs.Reply.{ReplyData}
-use Rattle.alto_serve.specs.Events.{Event, waited, wrote, Known, Emits, IsSubmitted, OneLook, OneWait, PrefixOf, Submits, bytes_in}
+use Rattle.alto_serve.specs.Events.{Event, waited, wrote, Known, Emits, IsSubmitted, OneLook, OneWait, PrefixOf}
+use Rattle.alto_serve.specs.Events.{Submits, bytes_in}
 use Rattle.alto_serve.specs.Steps.{Concludes, HasLooked, HasSettled, IsConcluded, is_pending}
-use Rattle.alto_serve.specs.Turns.{ComesTo, IsCutOff, IsMoment, Leads, Reaches, Setting, Stage, TakesTurn, looks_next, has_answer, sees, submits}
+use Rattle.alto_serve.specs.Turns.{ComesTo, IsCutOff, IsMoment, Leads, Reaches, Setting, Stage, TakesTurn, looks_next}
+use Rattle.alto_serve.specs.Turns.{has_answer, sees, submits}
 use Rattle.alto_serve.proofs.EventLemmas.{emits_on, prefix_on, prefix_whole}
 
 -- what holds anyhow holds after an error

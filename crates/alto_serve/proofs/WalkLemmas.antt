@@ -1,5 +1,6 @@
 -- The edges that a connection's turns were answered with, and what following them leads to.
-use Rattle.std.proofs.Common.{◌≡◌, ℕ, Bool, true, false, List, [], ◌∷◌, ◌++◌, map, All, fold, Option, Some, None, if◌then◌else◌, refl, sym, ◌∙◌, ap, subst, inl, inr, append_assoc, arith}
+use Rattle.std.proofs.Common.{◌≡◌, ℕ, Bool, true, false, List, [], ◌∷◌, ◌++◌, map, All, fold, Option, Some, None}
+use Rattle.std.proofs.Common.{if◌then◌else◌, refl, sym, ◌∙◌, ap, subst, inl, inr, append_assoc, arith}
 use Rattle.std.proofs.lemmas.List.Sums.{fold-append}
 use Rattle.std.proofs.lemmas.List.Elements.{All-cons, All-contains, All-head, All-nil, All-tail}
 use Rattle.std.proofs.lemmas.Option.{IfSome_then}
@@ -155,7 +156,8 @@ all_give setting known (first ∷ exchanges) tail turns may =
     let rest = all_give setting (fold (known_after setting.alone) known first.events) exchanges tail
     (All-tail (IsTurn setting) first exchanges turns) (history_behind setting.alone known first.events more may').1 in
     subst (λ (xs : List Event). All (GaveEdge setting.client (seen_after setting.alone known xs)) (first ∷ exchanges))
-    (sym whole) (All-cons (GaveEdge setting.client (seen_after setting.alone known (first.events ++ more))) first exchanges
+    (sym whole) (All-cons (GaveEdge setting.client (seen_after setting.alone known (first.events ++ more))) first
+    exchanges
     (λ of edge asks ok. turn_gives setting.alone setting.client first.request of edge asks first.reply ok known
     (looks_next setting.most_waits) turn.0 first.events more tt turn.1.0 turn.2 may')
     (subst (λ (now : Known). All (GaveEdge setting.client now.seen) exchanges)
@@ -217,7 +219,8 @@ served_reach ended setting bytes left known events may served =
     let given = all_give setting known served.exchanges served.tail served.turns (rw served.whole at may) in
     subst (λ (xs : List Event). WalksReachDocuments setting.client served.exchanges (seen_after setting.alone known xs))
     (sym served.whole) (walks_reach setting.client served.exchanges last (λ of edge exchange gives.
-    All-contains (GaveEdge setting.client last) served.exchanges exchange given gives.there of edge gives.asked gives.ok))
+    All-contains (GaveEdge setting.client last) served.exchanges exchange given gives.there of edge
+    gives.asked gives.ok))
 
 -- walks along the edges of what was served
 pub served_walks : (ended : End) (setting : Setting) (before after : State)

@@ -15,7 +15,8 @@ closed_unused door counts is = rw is refl
 pub closed_served : (door : DoorState) (first : ℕ) (counts later : DoorCounts) (n : ℕ) → is_served door ≡ true
     → counts.served ≡ risen first n → later ≡ closed door counts → later.served ≡ risen first (suc n)
 closed_served door first counts later n served so_far is =
-    ap (λ (counts : DoorCounts). counts.served) is ∙ ap (λ was. one_more_if was counts.served) served ∙ ap one_more so_far
+    ap (λ (counts : DoorCounts). counts.served) is ∙ ap (λ was. one_more_if was counts.served) served
+    ∙ ap one_more so_far
 
 -- what holds of all holds of the first and of the rest
 pub all_parted : {X : Type 0} {x : X} {xs ys : List X} → ys ≡ x ∷ xs → (P : X → Type 0) → All P ys → P x × All P xs

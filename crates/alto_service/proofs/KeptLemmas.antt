@@ -23,7 +23,8 @@ backs_grown held later book grown backs = (later, grown, backs)
 pub backs_moved : (held other : StoredData → Type 0) (book : Book) → BacksLater held book
     → ((stored : StoredData) → held stored → other stored) → BacksLater other book
 unfolding BacksLater
-backs_moved held other book (later, grown, (stored, was, stands)) moved = (later, grown, (stored, moved stored was, stands))
+backs_moved held other book (later, grown, (stored, was, stands)) moved =
+    (later, grown, (stored, moved stored was, stands))
 
 -- what holds of a keeper, and what holds where there is none
 pub if_some : {T : Type 0} (N : Type 0) (P : T → Type 0) (found : Option T) (x : T) → found ≡ Some x

@@ -9,7 +9,8 @@ use Rattle.alto_book.proofs.GrownLemmas.{writes_in-grown}
 use Rattle.alto_versions.specs.Front.{Version, StandsFor, graphs_of, tables_of}
 
 -- the rows of a book with one batch more
-pub rows_of-with_batch : (book : Book) (batch : Accepted) → after (rows_of book) batch.writes ≡ rows_of (with_batch book batch)
+pub rows_of-with_batch : (book : Book) (batch : Accepted)
+    → after (rows_of book) batch.writes ≡ rows_of (with_batch book batch)
 rows_of-with_batch book batch =
     rw (writes_in-grown book.batches batch) (sym (after-append book.base (writes_in book.batches) batch.writes))
 
@@ -17,7 +18,8 @@ rows_of-with_batch book batch =
 pub stands_more : (book : Book) (batch : Accepted) (old version : Version) → StandsFor old book
     → version.n ≡ old.n + 1 → version.rows ≡ after old.rows batch.writes
     → (version.rows ≡ rows_of (with_batch book batch) → version.graphs ≡ graphs_of (with_batch book batch))
-    → (version.rows ≡ rows_of (with_batch book batch) → version.tables ≡ tables_of (with_batch book batch)) → StandsFor version (with_batch book batch)
+    → (version.rows ≡ rows_of (with_batch book batch) → version.tables ≡ tables_of (with_batch book batch))
+    → StandsFor version (with_batch book batch)
 stands_more book batch old version stands next led graphs tables =
     let current : version.rows ≡ rows_of (with_batch book batch) =
     led ∙ (ap (λ (rows : Rows). after rows batch.writes) stands.current ∙ rows_of-with_batch book batch) in

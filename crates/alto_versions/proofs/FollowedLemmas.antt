@@ -42,7 +42,8 @@ good_still graph push good more =
     (All-push (λ (p : Push). AreGood p.rows) graph.kept push good more)
 
 -- a patch that is kept is that of its edge
-pub patch_at : (graph : GraphData) (of : Resource) (texts : NumberTexts) (items : List PatchTexts) (k : ℕ) (patch : PatchTexts) (form : PatchForm)
+pub patch_at : (graph : GraphData) (of : Resource) (texts : NumberTexts) (items : List PatchTexts) (k : ℕ)
+    (patch : PatchTexts) (form : PatchForm)
     → AreTextsAt graph of texts → items ≡ texts.patches → k < length items → patch ≡ get_or items k patch
     → IsPatchText graph of form patch.from texts.number (text_in_form patch form)
 patch_at graph of texts items k patch form are same within at =
@@ -51,8 +52,10 @@ patch_at graph of texts items k patch form are same within at =
     (are.patches k patch (omega (arith, within, ap length same)) form)
 
 -- texts that are kept with a graph are those of a number, for the resource that it is of
-pub texts_found : {X : Type 0} (value : X → NumberTexts) (graph seen : GraphData) (own of : Resource) (kept items : List X) (k : ℕ) (item : X)
-    → graph ≡ seen → (test : Bool) → test ≡ is_at (resource_cmp of) own → test ≡ true → All (AreTextsAt graph own) (map value kept)
+pub texts_found : {X : Type 0} (value : X
+    → NumberTexts) (graph seen : GraphData) (own of : Resource) (kept items : List X) (k : ℕ) (item : X)
+    → graph ≡ seen → (test : Bool) → test ≡ is_at (resource_cmp of) own → test ≡ true
+    → All (AreTextsAt graph own) (map value kept)
     → items ≡ kept → k < length items → item ≡ get_or items k item → AreTextsAt seen of (value item)
 texts_found {X = X} value graph seen own of kept items k item is test tells holds each same within at =
     let one : of ≡ own = resource_cmp_exact of own (equal_tests (resource_cmp of own) (sym tells ∙ holds)) in

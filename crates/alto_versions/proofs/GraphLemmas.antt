@@ -14,7 +14,8 @@ use Rattle.alto_book.specs.Acceptance.{with_batch}
 use Rattle.alto_book.specs.Book.{Book, Kept, rows_of}
 use Rattle.alto_book.specs.Legal.{IsLegal}
 use Rattle.alto_book.specs.Numbers.{renews, updates_graph}
-use Rattle.alto_book.proofs.GraphLemmas.{with_batch_extends, version_of-with_batch, renews_newly, last-updates_graph, updates_graph-renewed, updates_graph-other, updates_graph-declared}
+use Rattle.alto_book.proofs.GraphLemmas.{with_batch_extends, version_of-with_batch, renews_newly, last-updates_graph}
+use Rattle.alto_book.proofs.GraphLemmas.{updates_graph-renewed, updates_graph-other, updates_graph-declared}
 use Rattle.alto_book.proofs.StayLemmas.{window_of-extended}
 use Rattle.alto_book.proofs.TrimGraphLemmas.{updates_graph-base}
 use Rattle.alto_versions.specs.Front.{graph_in, graphs_of}
@@ -28,7 +29,8 @@ no_higher : (a : ℕ) → nat_lt a a ≡ false
 no_higher a = grind (arith, nat_tests)
 
 -- a graph whose last number is the version before becomes, by whether it rises, one with a push more or itself
-graph_raised : (graph : GraphData) (of : Resource) (rows : Rows) (writes : List Write) → version_of rows of ≡ graph.last + 1
+graph_raised : (graph : GraphData) (of : Resource) (rows : Rows) (writes : List Write)
+    → version_of rows of ≡ graph.last + 1
     → graph_after (Some graph) of rows writes ≡ with_push graph (push_after of rows writes)
 graph_raised graph of rows writes h = rw (h, higher graph.last) refl
 
@@ -39,14 +41,17 @@ graph_stays graph of rows writes h = rw (h, no_higher graph.last) refl
 -- the graph of a resource that was declared before a batch
 declared_step : (book : Book) (batch : Accepted) (of : Resource) → IsLegal book → IsLegal (with_batch book batch)
     → is_declared (rows_of book) of ≡ true
-    → graph_after (Some (updates_graph book of)) of (rows_of (with_batch book batch)) batch.writes ≡ updates_graph (with_batch book batch) of
+    → graph_after (Some (updates_graph book of)) of (rows_of (with_batch book batch)) batch.writes
+    ≡ updates_graph (with_batch book batch) of
 declared_step book batch of legal legal_with declared = by (renews of batch) refl
   where
     by : (b : Bool) → renews of batch ≡ b
-        → graph_after (Some (updates_graph book of)) of (rows_of (with_batch book batch)) batch.writes ≡ updates_graph (with_batch book batch) of
+        → graph_after (Some (updates_graph book of)) of (rows_of (with_batch book batch)) batch.writes
+        ≡ updates_graph (with_batch book batch) of
     by true e =
         graph_raised (updates_graph book of) of (rows_of (with_batch book batch)) batch.writes
-        (version_of-with_batch book batch of legal_with ∙ (rw e (ap (λ (n : ℕ). n + 1) (sym (last-updates_graph book of legal declared)))))
+        (version_of-with_batch book batch of legal_with
+        ∙ (rw e (ap (λ (n : ℕ). n + 1) (sym (last-updates_graph book of legal declared)))))
         ∙ sym (updates_graph-renewed book batch of legal legal_with declared e)
     by false e =
         graph_stays (updates_graph book of) of (rows_of (with_batch book batch)) batch.writes
@@ -77,14 +82,17 @@ new_step book batch of legal legal_with out now =
 pub base_step : (base : Rows) (receipts : List Kept) (of : Resource) → AreGood base → is_declared base of ≡ true
     → graph_after None of base [] ≡ updates_graph (record { base = base; receipts = receipts; batches = [] }) of
 base_step base receipts of good declared =
-    one_push_more (window_of base) (version_of base of - 1) [] (push_after of base []) ∙ sym (updates_graph-base base receipts of good declared)
+    one_push_more (window_of base) (version_of base of - 1) [] (push_after of base [])
+    ∙ sym (updates_graph-base base receipts of good declared)
 
 -- the graph of a resource that is declared after a batch, from that which it had before, if it had one
 pub graph_step : (book : Book) (batch : Accepted) (of : Resource) → IsLegal book → IsLegal (with_batch book batch)
     → is_declared (rows_of (with_batch book batch)) of ≡ true
-    → graph_after (graph_in (graphs_of book) of) of (rows_of (with_batch book batch)) batch.writes ≡ updates_graph (with_batch book batch) of
+    → graph_after (graph_in (graphs_of book) of) of (rows_of (with_batch book batch)) batch.writes
+    ≡ updates_graph (with_batch book batch) of
 graph_step book batch of legal legal_with now =
-    ap (λ (graph : Option GraphData). graph_after graph of (rows_of (with_batch book batch)) batch.writes) (graph_found book of)
+    ap (λ (graph : Option GraphData). graph_after graph of (rows_of (with_batch book batch)) batch.writes)
+    (graph_found book of)
     ∙ by (is_declared (rows_of book) of) refl
   where
     by : (b : Bool) → is_declared (rows_of book) of ≡ b

@@ -77,24 +77,29 @@ leads : (graphs : List (Resource × GraphData)) (of : Resource) → AreOrdered g
 leads [] of s = refl
 leads (entry ∷ rest) of s =
     by (is_lt (resource_cmp entry.0 of)) refl (is_eq (resource_cmp of entry.0)) refl
-    (leads rest of (sorted_tail resource_cmp entry.0 (keys_of rest) s)) (sorted_head resource_cmp entry.0 (keys_of rest) s)
+    (leads rest of (sorted_tail resource_cmp entry.0 (keys_of rest) s))
+    (sorted_head resource_cmp entry.0 (keys_of rest) s)
   where
     by : (b : Bool) → is_lt (resource_cmp entry.0 of) ≡ b → (c : Bool) → is_eq (resource_cmp of entry.0) ≡ c
-        → leading_graph (graphs_from rest of) of ≡ graph_in rest of → AllByRecursion (λ later. resource_cmp entry.0 later ≡ Less) (keys_of rest)
+        → leading_graph (graphs_from rest of) of ≡ graph_in rest of
+        → AllByRecursion (λ later. resource_cmp entry.0 later ≡ Less) (keys_of rest)
         → leading_graph (graphs_from (entry ∷ rest) of) of ≡ graph_in (entry ∷ rest) of
     by true e c f below later = rw (e, earlier_apart of entry.0 (less_of_test (resource_cmp entry.0 of) e)) below
     by false e true f below later = rw (e, f) refl
     by false e false f below later =
-        let turned : resource_cmp of entry.0 ≡ ordering_reverse (resource_cmp entry.0 of) = resource_cmp_total.antisymm of entry.0 in
+        let turned : resource_cmp of entry.0 ≡ ordering_reverse (resource_cmp entry.0 of) =
+        resource_cmp_total.antisymm of entry.0 in
         let less : resource_cmp of entry.0 ≡ Less = turned ∙ after_both (resource_cmp entry.0 of) e (rw turned at f) in
         rw (e, f) (sym (none_later rest of entry.0 less later))
 
-ordered_from : (graphs : List (Resource × GraphData)) (of : Resource) → AreOrdered graphs → AreOrdered (graphs_from graphs of)
+ordered_from : (graphs : List (Resource × GraphData)) (of : Resource) → AreOrdered graphs
+    → AreOrdered (graphs_from graphs of)
 ordered_from [] of s = s
 ordered_from (entry ∷ rest) of s =
     by (is_lt (resource_cmp entry.0 of)) refl (ordered_from rest of (sorted_tail resource_cmp entry.0 (keys_of rest) s))
   where
-    by : (b : Bool) → is_lt (resource_cmp entry.0 of) ≡ b → AreOrdered (graphs_from rest of) → AreOrdered (graphs_from (entry ∷ rest) of)
+    by : (b : Bool) → is_lt (resource_cmp entry.0 of) ≡ b → AreOrdered (graphs_from rest of)
+        → AreOrdered (graphs_from (entry ∷ rest) of)
     by true e below = rw e below
     by false e below = rw e s
 
@@ -104,21 +109,30 @@ ordered_from (entry ∷ rest) of s =
 abbrev pub matched : List Resource → List (Resource × GraphData) → Rows → List Write → List (Resource × GraphData)
 matched [] left rows writes = []
 matched (of ∷ ofs) left rows writes =
-    (of, graph_after (leading_graph (graphs_from left of) of) of rows writes) ∷ matched ofs (graphs_from left of) rows writes
+    (of, graph_after (leading_graph (graphs_from left of) of) of rows writes)
+    ∷ matched ofs (graphs_from left of) rows writes
 
 -- each resource's graph becomes this one
 abbrev Become : (Resource → GraphData) → List (Resource × GraphData) → Rows → List Write → List Resource → Type 0
-Become graph left rows writes ofs = AllByRecursion (λ one. graph_after (graph_in left one) one rows writes ≡ graph one) ofs
+Become graph left rows writes ofs =
+    AllByRecursion (λ one. graph_after (graph_in left one) one rows writes ≡ graph one) ofs
 
-become_from : (graph : Resource → GraphData) (left : List (Resource × GraphData)) (rows : Rows) (writes : List Write) (of : Resource) (ofs : List Resource)
-    → AllByRecursion (λ one. resource_cmp of one ≡ Less) ofs → Become graph left rows writes ofs → Become graph (graphs_from left of) rows writes ofs
+become_from : (graph : Resource → GraphData) (left : List (Resource × GraphData)) (rows : Rows) (writes : List Write)
+    (of : Resource) (ofs : List Resource)
+    → AllByRecursion (λ one. resource_cmp of one ≡ Less) ofs → Become graph left rows writes ofs
+    → Become graph (graphs_from left of) rows writes ofs
 become_from graph left rows writes of [] later h = tt
 become_from graph left rows writes of (one ∷ ofs) later h =
     let same : graph_in (graphs_from left of) one ≡ graph_in left one =
-    found_from left of one (λ earlier less. earlier_apart one earlier (resource_cmp_total.trans earlier of one less later.0)) in
-    (ap (λ (o : Option GraphData). graph_after o one rows writes) same ∙ h.0, become_from graph left rows writes of ofs later.1 h.1)
+    found_from left of one (λ earlier less. earlier_apart one
+    earlier (resource_cmp_total.trans earlier of one less later.0)) in (
+      ap (λ (o : Option GraphData). graph_after o one rows writes) same
+          ∙ h.0,
+      become_from graph left rows writes of ofs later.1 h.1,
+    )
 
-matched_all : (graph : Resource → GraphData) (ofs : List Resource) (left : List (Resource × GraphData)) (rows : Rows) (writes : List Write)
+matched_all : (graph : Resource → GraphData) (ofs : List Resource) (left : List (Resource × GraphData)) (rows : Rows)
+    (writes : List Write)
     → IsStrictlySortedBy resource_cmp ofs → AreOrdered left → Become graph left rows writes ofs
     → matched ofs left rows writes ≡ map (λ of. (of, graph of)) ofs
 matched_all graph [] left rows writes s t h = refl
@@ -127,22 +141,26 @@ matched_all graph (of ∷ ofs) left rows writes s t h =
     ap (λ (o : Option GraphData). graph_after o of rows writes) (leads left of t) ∙ h.0 in
     rw own
     (ap (λ (more : List (Resource × GraphData)). (of, graph of) ∷ more)
-    (matched_all graph ofs (graphs_from left of) rows writes (sorted_tail resource_cmp of ofs s) (ordered_from left of t)
+    (matched_all graph ofs (graphs_from left of) rows writes (sorted_tail resource_cmp of ofs s)
+    (ordered_from left of t)
     (become_from graph left rows writes of ofs (sorted_head resource_cmp of ofs s) h.1)))
 
 -- the resources of graphs that were made for resources
-firsts : (graph : Resource → GraphData) (ofs : List Resource) → keys_of (map (λ (of : Resource). (of, graph of)) ofs) ≡ ofs
+firsts : (graph : Resource → GraphData) (ofs : List Resource)
+    → keys_of (map (λ (of : Resource). (of, graph of)) ofs) ≡ ofs
 firsts graph [] = refl
 firsts graph (of ∷ ofs) = ap (λ (more : List Resource). of ∷ more) (firsts graph ofs)
 
 -- the graphs of a book become those of the book with the batch
 pub graphs_grown : (book : Book) (batch : Accepted) → IsLegal book → IsLegal (with_batch book batch)
-    → matched (resources_of (rows_of (with_batch book batch))) (graphs_of book) (rows_of (with_batch book batch)) batch.writes
+    → matched (resources_of (rows_of (with_batch book batch))) (graphs_of book)
+    (rows_of (with_batch book batch)) batch.writes
     ≡ graphs_of (with_batch book batch)
 graphs_grown book batch legal legal_with =
     matched_all (updates_graph (with_batch book batch)) (resources_of rows) (graphs_of book) rows batch.writes
     (resources_sorted rows (good_rows (with_batch book batch) legal_with).sorted)
-    (rw (firsts (updates_graph book) (resources_of (rows_of book))) (resources_sorted (rows_of book) (good_rows book legal).sorted))
+    (rw (firsts (updates_graph book) (resources_of (rows_of book)))
+    (resources_sorted (rows_of book) (good_rows book legal).sorted))
     (each (resources_of rows) (resources_declared rows))
   where
     rows : Rows
@@ -154,10 +172,12 @@ graphs_grown book batch legal legal_with =
     each (of ∷ ofs) h = (graph_step book batch of legal legal_with h.0, each ofs h.1)
 
 -- a book without batches past its base has the graphs that its rows alone make
-pub graphs_of_base : (book : Book) (rows : Rows) → AreGood rows → book.batches ≡ [] → rows ≡ book.base → matched (resources_of rows) [] rows [] ≡ graphs_of book
+pub graphs_of_base : (book : Book) (rows : Rows) → AreGood rows → book.batches ≡ [] → rows ≡ book.base
+    → matched (resources_of rows) [] rows [] ≡ graphs_of book
 unfolding IsStrictlySortedBy
 graphs_of_base book rows good none is =
-    matched_all (updates_graph alone) (resources_of rows) [] rows [] (resources_sorted rows good.sorted) tt (each (resources_of rows) (resources_declared rows))
+    matched_all (updates_graph alone) (resources_of rows) [] rows [] (resources_sorted rows good.sorted)
+    tt (each (resources_of rows) (resources_declared rows))
     ∙ ap graphs_of same
   where
     alone : Book
@@ -166,26 +186,31 @@ graphs_of_base book rows good none is =
     same : alone ≡ book
     same =
         ap (λ (base : Rows). record { base = base; receipts = book.receipts; batches = [] }) is
-        ∙ ap (λ (batches : List Accepted). record { base = book.base; receipts = book.receipts; batches = batches }) (sym none)
+        ∙ ap (λ (batches : List Accepted). record { base = book.base; receipts = book.receipts; batches = batches })
+        (sym none)
 
-    each : (ofs : List Resource) → AllByRecursion (λ of. is_declared rows of ≡ true) ofs → Become (updates_graph alone) [] rows [] ofs
+    each : (ofs : List Resource) → AllByRecursion (λ of. is_declared rows of ≡ true) ofs
+        → Become (updates_graph alone) [] rows [] ofs
     each [] h = tt
     each (of ∷ ofs) h = (base_step rows book.receipts of good h.0, each ofs h.1)
 
 -- ---- the loop over the resources
 
 -- the graphs that are there and those of the resources that are left stay all, as one resource gets its graph
-pub matched_step : (rows : Rows) (writes : List Write) (done more left from all : List (Resource × GraphData)) (ofs rest : List Resource)
+pub matched_step : (rows : Rows) (writes : List Write) (done more left from all : List (Resource × GraphData))
+    (ofs rest : List Resource)
     (of : Resource) (graph : GraphData) (leading : Option GraphData) → ofs ≡ of ∷ rest → more ≡ done ++ (of, graph) ∷ []
     → graph ≡ graph_after leading of rows writes → leading ≡ leading_graph from of → from ≡ graphs_from left of
     → done ++ matched ofs left rows writes ≡ all → more ++ matched rest from rows writes ≡ all
 matched_step rows writes done more left from all ofs rest of graph leading front added made led cut whole =
     rw (added, made, led, cut)
-    (append_assoc done ((of, graph_after (leading_graph (graphs_from left of) of) of rows writes) ∷ []) (matched rest (graphs_from left of) rows writes)
+    (append_assoc done ((of, graph_after (leading_graph (graphs_from left of) of) of rows writes) ∷ [])
+    (matched rest (graphs_from left of) rows writes)
     ∙ (rw front at whole))
 
 -- once no resource is left, they are all
-pub matched_end : (rows : Rows) (writes : List Write) (done left all : List (Resource × GraphData)) (ofs : List Resource) → length ofs ≡ 0
+pub matched_end : (rows : Rows) (writes : List Write) (done left all : List (Resource × GraphData))
+    (ofs : List Resource) → length ofs ≡ 0
     → done ++ matched ofs left rows writes ≡ all → done ≡ all
 matched_end rows writes done left all [] h whole = sym (append-nil done) ∙ whole
 matched_end rows writes done left all (of ∷ ofs) h whole = absurd (omega arith)

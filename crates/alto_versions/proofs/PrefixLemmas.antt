@@ -74,28 +74,37 @@ others rows net of pid prefix ((key.Prefix one owner other, v) ∷ rest) good sa
   where
     by : (b : Bool) → same_name net one ≡ b → AllByRecursion (λ (other : Row). prefix ≢ other.0) (prefixes_in rest net)
         → AllByRecursion (λ (other : Row). prefix ≢ other.0) (prefixes_in ((key.Prefix one owner other, v) ∷ rest) net)
-    by true e below = rw e (apart rows of one pid owner prefix other good (sym same ∙ one_name net one e) has all.0 past.0, below)
+    by true e below = rw e (
+      apart rows of one pid owner prefix other good (sym same ∙ one_name net one e) has
+          all.0 past.0,
+      below,
+    )
     by false e below = rw e below
-others rows net of pid prefix ((_, v) ∷ rest) good same has all past = others rows net of pid prefix rest good same has all.1 past.1
+others rows net of pid prefix ((_, v) ∷ rest) good same has all past =
+    others rows net of pid prefix rest good same has all.1 past.1
 
 no_prefixes : AreDistinct []
 no_prefixes i j d lt within = absurd (omega arith)
 
-distinct_among : (rows some : Rows) (net : List ℕ) → AreGood rows → AreSorted some → HaveRows rows some → AreDistinct (prefixes_in some net)
+distinct_among : (rows some : Rows) (net : List ℕ) → AreGood rows → AreSorted some → HaveRows rows some
+    → AreDistinct (prefixes_in some net)
 distinct_among rows [] net good s all = no_prefixes
 distinct_among rows ((key.Prefix of pid prefix, v) ∷ some) net good s all =
-    by (same_name net of) refl (distinct_among rows some net good (sorted_rest (key.Prefix of pid prefix, v) some s) all.1)
+    by (same_name net of) refl (distinct_among rows some net
+    good (sorted_rest (key.Prefix of pid prefix, v) some s) all.1)
   where
     by : (b : Bool) → same_name net of ≡ b → AreDistinct (prefixes_in some net)
         → AreDistinct (prefixes_in ((key.Prefix of pid prefix, v) ∷ some) net)
     by true e below =
         let behind : AllByRecursion (λ (other : Row). prefix ≢ other.0) (prefixes_in some net) =
-        others rows net of pid prefix some good (one_name net of e) all.0 all.1 (past_first (key.Prefix of pid prefix, v) some s) in
+        others rows net of pid prefix some good (one_name net of e) all.0
+        all.1 (past_first (key.Prefix of pid prefix, v) some s) in
         rw e
         (AllPairs-cons (λ (one other : Row). one.0 ≢ other.0) (prefix, pid) (prefixes_in some net)
         (All-from_recursion (λ (other : Row). prefix ≢ other.0) (prefixes_in some net) behind) below)
     by false e below = rw e below
-distinct_among rows ((at, v) ∷ some) net good s all = distinct_among rows some net good (sorted_rest (at, v) some s) all.1
+distinct_among rows ((at, v) ∷ some) net good s all =
+    distinct_among rows some net good (sorted_rest (at, v) some s) all.1
 
 -- no two prefixes of a network are one
 pub prefixes_distinct : (rows : Rows) (net : List ℕ) → AreGood rows → AreDistinct (prefixes_in rows net)
@@ -103,7 +112,8 @@ prefixes_distinct rows net good = distinct_among rows rows net good good.sorted 
 
 -- ---- writes of none of them
 
-rows_in-put : (s : Span) (rows : Rows) (at : Key) (v : Value) → is_in s at ≡ false → rows_in (with_value rows at (Some v)) s ≡ rows_in rows s
+rows_in-put : (s : Span) (rows : Rows) (at : Key) (v : Value) → is_in s at ≡ false
+    → rows_in (with_value rows at (Some v)) s ≡ rows_in rows s
 rows_in-put s [] at v out = rw out refl
 rows_in-put s (row ∷ rows) at v out = by (rows_in-put s rows at v out) (key_cmp at row.0) refl
   where
@@ -115,10 +125,12 @@ rows_in-put s (row ∷ rows) at v out = by (rows_in-put s rows at v out) (key_cm
     by : rows_in (with_value rows at (Some v)) s ≡ rows_in rows s → (o : Ordering) → key_cmp at row.0 ≡ o
         → rows_in (with_value (row ∷ rows) at (Some v)) s ≡ rows_in (row ∷ rows) s
     by below Less e = rw (e, out) refl
-    by below Equal e = let outside : is_in s row.0 ≡ false = ap (is_in s) (sym (key_cmp_exact at row.0 e)) ∙ out in rw (e, outside) refl
+    by below Equal e = let outside : is_in s row.0 ≡ false = ap (is_in s) (sym (key_cmp_exact at row.0 e)) ∙ out in
+        rw (e, outside) refl
     by below Greater e = rw e (kept (is_in s row.0) refl below)
 
-rows_in-delete : (s : Span) (rows : Rows) (at : Key) → is_in s at ≡ false → rows_in (with_value rows at None) s ≡ rows_in rows s
+rows_in-delete : (s : Span) (rows : Rows) (at : Key) → is_in s at ≡ false
+    → rows_in (with_value rows at None) s ≡ rows_in rows s
 rows_in-delete s [] at out = refl
 rows_in-delete s (row ∷ rows) at out = by (rows_in-delete s rows at out) (is_eq (key_cmp at row.0)) refl
   where
@@ -129,7 +141,8 @@ rows_in-delete s (row ∷ rows) at out = by (rows_in-delete s rows at out) (is_e
 
     by : rows_in (with_value rows at None) s ≡ rows_in rows s → (b : Bool) → is_eq (key_cmp at row.0) ≡ b
         → rows_in (with_value (row ∷ rows) at None) s ≡ rows_in (row ∷ rows) s
-    by below true e = let outside : is_in s row.0 ≡ false = ap (is_in s) (sym (one_key at row.0 e)) ∙ out in rw (e, outside) refl
+    by below true e = let outside : is_in s row.0 ≡ false = ap (is_in s) (sym (one_key at row.0 e)) ∙ out in
+        rw (e, outside) refl
     by below false e = rw e (kept (is_in s row.0) refl below)
 
 rows_in-with_value : (s : Span) (rows : Rows) (at : Key) (v : Option Value) → is_in s at ≡ false
@@ -146,12 +159,15 @@ rows_in-after s rows (write ∷ writes) none =
   where
     by : (b : Bool) → is_in s write.key ≡ b
         → (list_any (λ write. is_in s write.key) writes ≡ false
-        → rows_in (after (with_value rows write.key write.value) writes) s ≡ rows_in (with_value rows write.key write.value) s)
+        → rows_in (after (with_value rows write.key write.value) writes) s
+        ≡ rows_in (with_value rows write.key write.value) s)
         → rows_in (after rows (write ∷ writes)) s ≡ rows_in rows s
     by true e later = let some : true ≡ false = rw e at none in cc
     by false e later = later (rw e at none) ∙ rows_in-with_value s rows write.key write.value e
 
 -- writes of no prefix of a network leave its prefixes
 pub prefixes_stay : (rows : Rows) (net : List ℕ) (writes : List Write)
-    → list_any (λ write. is_in (span.Prefixes net) write.key) writes ≡ false → prefixes_in (after rows writes) net ≡ prefixes_in rows net
-prefixes_stay rows net writes none = ap (λ (some : Rows). filter_map prefix_declared some) (rows_in-after (span.Prefixes net) rows writes none)
+    → list_any (λ write. is_in (span.Prefixes net) write.key) writes ≡ false
+    → prefixes_in (after rows writes) net ≡ prefixes_in rows net
+prefixes_stay rows net writes none =
+    ap (λ (some : Rows). filter_map prefix_declared some) (rows_in-after (span.Prefixes net) rows writes none)

@@ -17,13 +17,15 @@ use Rattle.pid_prefix.specs.Longest.{Row}
 
 -- among tables that are made for the networks of rows, a network's is found where it is declared
 found_in : (made : List ℕ → List Row) (rows : Rows) (net : List ℕ)
-    → table_in (map (λ one. (one, made one)) (nets_of rows)) net ≡ (if has_row rows (key.Net net) then Some (made net) else None)
+    → table_in (map (λ one. (one, made one)) (nets_of rows)) net
+    ≡ (if has_row rows (key.Net net) then Some (made net) else None)
 unfolding key_cmp
 found_in made [] net = refl
 found_in made ((key.Net other, v) ∷ rows) net = by (same_name net other) refl (found_in made rows net)
   where
     by : (b : Bool) → same_name net other ≡ b
-        → table_in (map (λ one. (one, made one)) (nets_of rows)) net ≡ (if has_row rows (key.Net net) then Some (made net) else None)
+        → table_in (map (λ one. (one, made one)) (nets_of rows)) net
+        ≡ (if has_row rows (key.Net net) then Some (made net) else None)
         → table_in (map (λ one. (one, made one)) (nets_of ((key.Net other, v) ∷ rows))) net
         ≡ (if has_row ((key.Net other, v) ∷ rows) (key.Net net) then Some (made net) else None)
     by true e below =
@@ -41,27 +43,31 @@ table_found rows net = found_in (prefixes_in rows) rows net
 
 -- a network's table after writes
 table_grown : (before : Rows) (writes : List Write) (net : List ℕ)
-    → table_after (table_in (tables_in before) net) net (after before writes) writes ≡ prefixes_in (after before writes) net
+    → table_after (table_in (tables_in before) net) net (after before writes) writes
+    ≡ prefixes_in (after before writes) net
 table_grown before writes net =
     ap (λ (table : Option (List Row)). table_after table net (after before writes) writes) (table_found before net)
     ∙ by (has_row before (key.Net net)) (writes_prefix net writes) refl
   where
     by : (declared written : Bool) → writes_prefix net writes ≡ written
-        → table_after (if declared then Some (prefixes_in before net) else None) net (after before writes) writes ≡ prefixes_in (after before writes) net
+        → table_after (if declared then Some (prefixes_in before net) else None) net (after before writes) writes
+        ≡ prefixes_in (after before writes) net
     by true true e = rw e refl
     by true false e = rw e (sym (prefixes_stay before net writes e))
     by false written e = refl
 
 -- those of all these networks
 tables_grown : (before : Rows) (writes : List Write) (nets : List (List ℕ))
-    → tables_after (tables_in before) nets (after before writes) writes ≡ map (λ net. (net, prefixes_in (after before writes) net)) nets
+    → tables_after (tables_in before) nets (after before writes) writes
+    ≡ map (λ net. (net, prefixes_in (after before writes) net)) nets
 tables_grown before writes [] = refl
 tables_grown before writes (net ∷ nets) = rw (table_grown before writes net, tables_grown before writes nets) refl
 
 -- once each network has its table, they are those of the rows that the writes led to
 pub tables_made : (before rows : Rows) (writes : List Write) (tables done : List NetTable) (left : List (List ℕ))
     → rows ≡ after before writes → tables ≡ tables_in before → length left ≡ 0
-    → done ++ tables_after tables left rows writes ≡ tables_after tables (nets_of rows) rows writes → done ≡ tables_in rows
+    → done ++ tables_after tables left rows writes ≡ tables_after tables (nets_of rows) rows writes
+    → done ≡ tables_in rows
 tables_made before rows writes tables done [] led had none whole =
     sym (append-nil done) ∙ (whole ∙ rw (led, had) (tables_grown before writes (nets_of (after before writes))))
 tables_made before rows writes tables done (net ∷ left) led had none whole = absurd (omega arith)

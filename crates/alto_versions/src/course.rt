@@ -21,8 +21,8 @@ use std::marker::Model;
 use std::sync::Arc;
 
 /// A version in the making: all of it but the range tables, the costs by source and the texts, which cost much and are
-/// asked for at the end alone. So many batches in a row are gone through as fast as their rows. A contract sees the number, the rows and the
-/// graphs.
+/// asked for at the end alone. So many batches in a row are gone through as fast as their rows. A contract sees the
+/// number, the rows and the graphs.
 #[derive(Drop)]
 pub struct Course<R: RowStore> {
     n: u64,

@@ -1,5 +1,6 @@
 -- What clap found, and the task that it asks for.
-use Rattle.std.proofs.Common.{◌≡◌, ◌≢◌, ◌∙◌, sym, ap, ap₂, refl, true, inl, inr, ℕ, List, [], ◌∷◌, map, Option, Some, None, option_map}
+use Rattle.std.proofs.Common.{◌≡◌, ◌≢◌, ◌∙◌, sym, ap, ap₂, refl, true, inl, inr, ℕ, List, [], ◌∷◌, map, Option, Some}
+use Rattle.std.proofs.Common.{None, option_map}
 use Rattle.std.proofs.Math.Path.{fun_ext}
 use Rattle.std.specs.Prelude.{Box, find, slice_get}
 use Rattle.std.specs.Borrow.{Bor}
@@ -10,7 +11,8 @@ use Rattle.clap.proofs.WalkLemmas.{find-map}
 use Rattle.clap.specs.Facts.{Entry}
 use Rattle.clap.specs.Simple.{subcommand_rows}
 use Rattle.clap.specs.Walk.{row_of}
-use Rattle.clap.specs.Words.{App, HasKind, HasMatchesOf, Kinds, Row, fault_of, first_of, first_value, is_simple, is_simple_and_free, kind_of, rows_of, subcommand_of, subcommand_rows_of}
+use Rattle.clap.specs.Words.{App, HasKind, HasMatchesOf, Kinds, Row, fault_of, first_of, first_value, is_simple}
+use Rattle.clap.specs.Words.{is_simple_and_free, kind_of, rows_of, subcommand_of, subcommand_rows_of}
 use Rattle.clap.specs.declared.error.Error.{Error}
 use Rattle.clap.specs.declared.error.kind.ErrorKind.TheVariants.{OutOfMemory}
 use Rattle.clap.specs.declared.parser.matches.ArgMatches.{ArgMatches}
@@ -31,7 +33,8 @@ pub found_is : {Z : Type 0} (found : Option (Box SubCommand Z)) (name : List ℕ
 found_is None name rows name_is rows_are = cc
 found_is (Some b) name rows name_is rows_are = cc
 
-first_text : (texts : List (Bor (List ℕ))) → option_map (λ s. s.now) (slice_get texts 0) ≡ slice_get (map (λ s. s.now) texts) 0
+first_text : (texts : List (Bor (List ℕ)))
+    → option_map (λ s. s.now) (slice_get texts 0) ≡ slice_get (map (λ s. s.now) texts) 0
 first_text [] = refl
 first_text (text ∷ texts) = refl
 
@@ -39,7 +42,8 @@ first_text (text ∷ texts) = refl
 value_is : (found : Found) (id : List ℕ) → first_value found id ≡ first_of id (rows_of found)
 value_is found id =
     at_entry (find (λ e. bytes_eq e.0.now id) found.entries.items)
-    ∙ ap (option_and_then (λ (r : Row). slice_get r.values 0)) (find-map (λ (r : Row). bytes_eq r.id id) row_of found.entries.items)
+    ∙ ap (option_and_then (λ (r : Row). slice_get r.values 0))
+    (find-map (λ (r : Row). bytes_eq r.id id) row_of found.entries.items)
   where
     at_entry : (entry : Option Entry)
         → option_and_then (λ a. option_map (λ s. s.now) (slice_get a.vals.items 0)) (option_map (λ e. e.1) entry)
@@ -53,7 +57,8 @@ pub task_is : (rows : Option (List ℕ × List Row)) (name : List ℕ) (found : 
     → task_in command (first_value found) ≡ task_found rows
 task_is rows name found command is named =
     ap (task_in command) (fun_ext (value_is found))
-    ∙ sym (ap task_found is ∙ ap (option_and_then (λ command. task_in command (λ id. first_of id (rows_of found)))) named)
+    ∙ sym (ap task_found is ∙ ap (option_and_then (λ command. task_in command (λ id. first_of id (rows_of found))))
+    named)
 
 -- no task, where what was found is no command
 pub no_task : (rows : Option (List ℕ × List Row)) (name : List ℕ) (found : Found)
@@ -75,9 +80,11 @@ none_where_faulty (kind ∷ kinds) e task has other = refl
 
 -- words that clap refuses ask for nothing
 pub refused_is_outside : (app : App) (texts words : List (List ℕ)) (e : Error) → app ≡ program → texts ≡ words
-    → (is_simple_and_free app ≡ true → HasKind (fault_of app texts) e) → kind_of e ≢ OutOfMemory → command_task words ≡ None
+    → (is_simple_and_free app ≡ true → HasKind (fault_of app texts) e) → kind_of e ≢ OutOfMemory
+    → command_task words ≡ None
 refused_is_outside app texts words e app_is texts_are kinds other =
-    ap₂ (λ (a : App) (ts : List (List ℕ)). unless_faulty (fault_of a ts) (task_found (subcommand_of program words))) (sym app_is) (sym texts_are)
+    ap₂ (λ (a : App) (ts : List (List ℕ)). unless_faulty (fault_of a ts) (task_found (subcommand_of program words)))
+    (sym app_is) (sym texts_are)
     ∙ none_where_faulty (fault_of app texts) e _ (kinds (ap is_simple_and_free app_is ∙ free)) other
 
 -- words that clap takes ask for what it found

@@ -42,11 +42,13 @@ show_app = with_rule (with_rule (new_app (codes "show")) (positional (codes "STO
 
 -- drill --number X [--batches B]
 abbrev pub drill_app : App
-drill_app = with_rule (with_rule (new_app (codes "drill")) (required (option (codes "number")))) (option (codes "batches"))
+drill_app =
+    with_rule (with_rule (new_app (codes "drill")) (required (option (codes "number")))) (option (codes "batches"))
 
 -- trim STORE --keep K
 abbrev pub trim_app : App
-trim_app = with_rule (with_rule (new_app (codes "trim")) (positional (codes "STORE"))) (required (option (codes "keep")))
+trim_app =
+    with_rule (with_rule (new_app (codes "trim")) (positional (codes "STORE"))) (required (option (codes "keep")))
 
 -- the program without its commands: none of what clap adds by itself, and a command has to be there
 abbrev pub program_app : App

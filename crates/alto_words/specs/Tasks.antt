@@ -56,13 +56,15 @@ task_in command.Init value = all_three Init (value (codes "STORE"))
     (option_and_then epoch_in (value (codes "epoch"))) (option_and_then (number_in 2 32) (value (codes "window")))
 task_in command.Pipe value = both Pipe (value (codes "STORE")) (or_usual 30 (number_in 0 1000) (value (codes "turns")))
 task_in command.Serve value = all_five Serve (value (codes "STORE")) (value (codes "public")) (value (codes "operator"))
-    (option_and_then (number_in 1 64) (value (codes "workers"))) (or_usual 30 (number_in 0 1000) (value (codes "turns")))
+    (option_and_then (number_in 1 64) (value (codes "workers")))
+    (or_usual 30 (number_in 0 1000) (value (codes "turns")))
 task_in command.Import value = all_three Import (value (codes "STORE"))
     (option_and_then id_in (value (codes "id"))) (option_and_then form_in (value (codes "form")))
 task_in command.Show value = both Show (value (codes "STORE")) (value (codes "RESOURCE"))
 task_in command.Drill value = both Drill (option_and_then (number_in 0 4294967295) (value (codes "number")))
     (or_usual 40 (number_in 1 1000) (value (codes "batches")))
-task_in command.Trim value = both Trim (value (codes "STORE")) (option_and_then (number_in 0 4096) (value (codes "keep")))
+task_in command.Trim value =
+    both Trim (value (codes "STORE")) (option_and_then (number_in 0 4096) (value (codes "keep")))
 
 -- numbers that words may say
 abbrev pub IsInRange : Task → Type 0

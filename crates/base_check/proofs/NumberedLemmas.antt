@@ -34,17 +34,22 @@ abbrev NoneMisnumbered : Rows → ℕ → Type 0
 NoneMisnumbered rows number = list_any (is_misnumbered rows number) rows ≡ false
 
 -- the row of a key doesn't
-passes : (rows : Rows) (number : ℕ) (at : Key) (there : HasValue rows at) → NoneMisnumbered rows number → is_misnumbered rows number (at, there.v) ≡ false
+passes : (rows : Rows) (number : ℕ) (at : Key) (there : HasValue rows at) → NoneMisnumbered rows number
+    → is_misnumbered rows number (at, there.v) ≡ false
 passes rows number at there none = fails_at (is_misnumbered rows number) rows at there.v none there.is
 
 -- so a declared resource has a version
-there_from : (rows : Rows) (number : ℕ) (of : Resource) → NoneMisnumbered rows number → is_declared rows of ≡ true → has_row rows (key.Seq of) ≡ true
+there_from : (rows : Rows) (number : ℕ) (of : Resource) → NoneMisnumbered rows number → is_declared rows of ≡ true
+    → has_row rows (key.Seq of) ≡ true
 there_from rows number (resource.Net net) none h =
-    lacks_not rows (key.Seq (resource.Net net)) (or_parts _ _ (passes rows number (key.Net net) (has_value rows (key.Net net) h) none)).0
+    lacks_not rows (key.Seq (resource.Net net))
+    (or_parts _ _ (passes rows number (key.Net net) (has_value rows (key.Net net) h) none)).0
 there_from rows number (resource.Prop net) none h =
-    lacks_not rows (key.Seq (resource.Prop net)) (or_parts _ _ (passes rows number (key.Net net) (has_value rows (key.Net net) h) none)).1
+    lacks_not rows (key.Seq (resource.Prop net))
+    (or_parts _ _ (passes rows number (key.Net net) (has_value rows (key.Net net) h) none)).1
 there_from rows number (resource.Cost net metric) none h =
-    lacks_not rows (key.Seq (resource.Cost net metric)) (passes rows number (key.Metric net metric) (has_value rows (key.Metric net metric) h) none)
+    lacks_not rows (key.Seq (resource.Cost net metric))
+    (passes rows number (key.Metric net metric) (has_value rows (key.Metric net metric) h) none)
 
 -- and none is above the number
 low_from : (rows : Rows) (number : ℕ) (of : Resource) → NoneMisnumbered rows number → version_of rows of ≤ number
@@ -52,17 +57,21 @@ low_from rows number of none = by (value_of rows (key.Seq of)) refl
   where
     by : (o : Option Value) → value_of rows (key.Seq of) ≡ o → number_in o ≤ number
     by None e = omega arith
-    by (Some v) e = ltb-false number (number_in (Some v)) (fails_at (is_misnumbered rows number) rows (key.Seq of) v none e)
+    by (Some v) e = ltb-false number (number_in (Some v))
+        (fails_at (is_misnumbered rows number) rows (key.Seq of) v none e)
 
 pub numbered_from : (rows : Rows) (number : ℕ) → NoneMisnumbered rows number → AreNumbered rows number
 numbered_from rows number none =
     record { there = λ of h. there_from rows number of none h; low = λ of. low_from rows number of none }
 
 -- and the other way
-has : (rows : Rows) (number : ℕ) (of : Resource) (v : Value) → AreNumbered rows number → value_of rows (declaring_key of) ≡ Some v → lacks rows (key.Seq of) ≡ false
-has rows number of v are is = not_from_true (has_row rows (key.Seq of)) (are.there of (has_row-some rows (declaring_key of) v is))
+has : (rows : Rows) (number : ℕ) (of : Resource) (v : Value) → AreNumbered rows number
+    → value_of rows (declaring_key of) ≡ Some v → lacks rows (key.Seq of) ≡ false
+has rows number of v are is = not_from_true (has_row rows (key.Seq of))
+    (are.there of (has_row-some rows (declaring_key of) v is))
 
-misnumbered_not : (rows : Rows) (number : ℕ) (at : Key) (v : Value) → AreNumbered rows number → value_of rows at ≡ Some v → is_misnumbered rows number (at, v) ≡ false
+misnumbered_not : (rows : Rows) (number : ℕ) (at : Key) (v : Value) → AreNumbered rows number
+    → value_of rows at ≡ Some v → is_misnumbered rows number (at, v) ≡ false
 misnumbered_not rows number (key.Net net) v are is =
     or_from _ _ (has rows number (resource.Net net) v are is) (has rows number (resource.Prop net) v are is)
 misnumbered_not rows number (key.Metric net metric) v are is = has rows number (resource.Cost net metric) v are is
@@ -71,4 +80,5 @@ misnumbered_not rows number (key.Seq of) v are is =
 misnumbered_not rows number _ v are is = refl
 
 pub none_from : (rows : Rows) (number : ℕ) → AreSorted rows → AreNumbered rows number → NoneMisnumbered rows number
-none_from rows number s are = all_fail (is_misnumbered rows number) rows s (λ at v is. misnumbered_not rows number at v are is)
+none_from rows number s are = all_fail (is_misnumbered rows number) rows
+    s (λ at v is. misnumbered_not rows number at v are is)

@@ -22,8 +22,11 @@ is_first_piece piece (begun, is, e) =
     let first : piece ≡ first_piece begun.b begun.count = cc in
     (begun.b, begun.count, record { some = is.some; most = is.most; few = is.few; spelled = first })
 
-pub no_first_piece : (piece : List ℕ) (why : Stop) → Denies ((b : ℕ) × (count : ℕ) × IsFirstPiece piece b count) why → Denies (AreBeginning (piece ∷ [])) why
-no_first_piece piece why never = denied_as ((b : ℕ) × (count : ℕ) × IsFirstPiece piece b count) (AreBeginning (piece ∷ [])) why (is_first_piece piece) never
+pub no_first_piece : (piece : List ℕ) (why : Stop) → Denies ((b : ℕ) × (count : ℕ) × IsFirstPiece piece b count) why
+    → Denies (AreBeginning (piece ∷ [])) why
+no_first_piece piece why never =
+    denied_as ((b : ℕ) × (count : ℕ) × IsFirstPiece piece b count) (AreBeginning (piece ∷ []))
+    why (is_first_piece piece) never
 
 pub no_rows : AreStored []
 unfolding IsStrictlySortedBy
@@ -45,8 +48,10 @@ bare_is b count piece is = record {
   in_turn = λ lt. refl;
 }
 
-pub bare_begins : (b count : ℕ) (piece : List ℕ) → IsFirstPiece piece b count → beginning_pieces (bare b count) ≡ piece ∷ []
-bare_begins b count piece is = bare_pieces (bare b count) (record { receipts = refl; rows = refl }) ∙ ap (λ p. p ∷ []) (sym is.spelled)
+pub bare_begins : (b count : ℕ) (piece : List ℕ) → IsFirstPiece piece b count
+    → beginning_pieces (bare b count) ≡ piece ∷ []
+bare_begins b count piece is = bare_pieces (bare b count) (record { receipts = refl; rows = refl })
+    ∙ ap (λ p. p ∷ []) (sym is.spelled)
 
 -- ---- the next piece
 
@@ -56,18 +61,23 @@ left_over total done count e some = omega (arith, e, some)
 all_done : (total done : ℕ) → done ≤ total → next_count total done ≡ 0 → done ≡ total
 all_done total done within none = omega (arith, within, none)
 
-pub receipts_stop : (begun : BeginningData) (piece : List ℕ) (count : ℕ) (why : Stop) → IsBeginning begun → count ≡ next_count begun.b (length begun.receipts) → 0 < count
-    → Denies ((receipts : List KeptData) × HasItems 0x44 kept_bytes IsKept count piece receipts) why → Denies (AreBeginning (beginning_pieces begun ++ (piece ∷ []))) why
+pub receipts_stop : (begun : BeginningData) (piece : List ℕ) (count : ℕ) (why : Stop) → IsBeginning begun
+    → count ≡ next_count begun.b (length begun.receipts) → 0 < count
+    → Denies ((receipts : List KeptData) × HasItems 0x44 kept_bytes IsKept count piece receipts) why
+    → Denies (AreBeginning (beginning_pieces begun ++ (piece ∷ []))) why
 receipts_stop begun piece count why is e some never =
-    denied_as ((receipts : List KeptData) × HasItems 0x44 kept_bytes IsKept count piece receipts) (AreBeginning (beginning_pieces begun ++ (piece ∷ []))) why
+    denied_as ((receipts : List KeptData) × HasItems 0x44 kept_bytes IsKept count piece receipts)
+    (AreBeginning (beginning_pieces begun ++ (piece ∷ []))) why
     (λ next. by (added begun piece is next).0 (added begun piece is next).2) never
   where
-    by : (more : BeginningData) → Adds begun piece more → (receipts : List KeptData) × HasItems 0x44 kept_bytes IsKept count piece receipts
+    by : (more : BeginningData) → Adds begun piece more
+        → (receipts : List KeptData) × HasItems 0x44 kept_bytes IsKept count piece receipts
     by more (inl adds) = (adds.last, record { all = adds.all; many = adds.many ∙ sym e; spelled = adds.spelled })
     by more (inr adds) = absurd (omega (arith, adds.turn, left_over begun.b (length begun.receipts) count e some))
 
 pub receipts_add : (begun : BeginningData) (piece : List ℕ) (count : ℕ) (receipts : List KeptData) → IsBeginning begun
-    → count ≡ next_count begun.b (length begun.receipts) → 0 < count → HasItems 0x44 kept_bytes IsKept count piece receipts
+    → count ≡ next_count begun.b (length begun.receipts) → 0 < count
+    → HasItems 0x44 kept_bytes IsKept count piece receipts
     → Grown begun piece (record begun { receipts = begun.receipts ++ receipts })
 receipts_add begun piece count receipts is e some has =
     grown begun piece (record begun { receipts = begun.receipts ++ receipts }) is (inl (record {
@@ -79,26 +89,37 @@ receipts_add begun piece count receipts is e some has =
       spelled = has.spelled;
     }))
 
-pub nothing_more : (begun : BeginningData) (piece : List ℕ) → IsBeginning begun → next_count begun.b (length begun.receipts) ≡ 0
+pub nothing_more : (begun : BeginningData) (piece : List ℕ) → IsBeginning begun
+    → next_count begun.b (length begun.receipts) ≡ 0
     → next_count begun.count (length begun.rows) ≡ 0 → ¬ (AreBeginning (beginning_pieces begun ++ (piece ∷ [])))
 nothing_more begun piece is none last next = by (added begun piece is next).0 (added begun piece is next).2
   where
     by : (more : BeginningData) → Adds begun piece more → ⊥
-    by more (inl adds) = omega (arith, adds.turn, all_done begun.b (length begun.receipts) is.first_receipts.within none)
+    by more (inl adds) = omega (
+      arith,
+      adds.turn,
+      all_done begun.b (length begun.receipts)
+          is.first_receipts.within none,
+    )
     by more (inr adds) = omega (arith, adds.left, all_done begun.count (length begun.rows) is.first_rows.within last)
 
-pub rows_stop : (begun : BeginningData) (piece : List ℕ) (count : ℕ) (why : Stop) → IsBeginning begun → next_count begun.b (length begun.receipts) ≡ 0
-    → count ≡ next_count begun.count (length begun.rows) → Denies ((more : Rows) × HasRows begun.rows count piece more) why
+pub rows_stop : (begun : BeginningData) (piece : List ℕ) (count : ℕ) (why : Stop) → IsBeginning begun
+    → next_count begun.b (length begun.receipts) ≡ 0
+    → count ≡ next_count begun.count (length begun.rows)
+    → Denies ((more : Rows) × HasRows begun.rows count piece more) why
     → Denies (AreBeginning (beginning_pieces begun ++ (piece ∷ []))) why
 rows_stop begun piece count why is none e never =
-    denied_as ((more : Rows) × HasRows begun.rows count piece more) (AreBeginning (beginning_pieces begun ++ (piece ∷ []))) why
+    denied_as ((more : Rows) × HasRows begun.rows count piece more)
+    (AreBeginning (beginning_pieces begun ++ (piece ∷ []))) why
     (λ next. by (added begun piece is next).0 (added begun piece is next).2) never
   where
     by : (more : BeginningData) → Adds begun piece more → (rows : Rows) × HasRows begun.rows count piece rows
-    by more (inl adds) = absurd (omega (arith, adds.turn, all_done begun.b (length begun.receipts) is.first_receipts.within none))
+    by more (inl adds) =
+        absurd (omega (arith, adds.turn, all_done begun.b (length begun.receipts) is.first_receipts.within none))
     by more (inr adds) = (adds.last, record { stored = adds.all; many = adds.many ∙ sym e; spelled = adds.spelled })
 
-pub rows_add : (begun : BeginningData) (piece : List ℕ) (count : ℕ) (more : Rows) → IsBeginning begun → next_count begun.b (length begun.receipts) ≡ 0
+pub rows_add : (begun : BeginningData) (piece : List ℕ) (count : ℕ) (more : Rows) → IsBeginning begun
+    → next_count begun.b (length begun.receipts) ≡ 0
     → count ≡ next_count begun.count (length begun.rows) → 0 < count → HasRows begun.rows count piece more
     → Grown begun piece (record begun { rows = begun.rows ++ more })
 rows_add begun piece count more is none e some has =

@@ -1,7 +1,10 @@
 -- A list in parts of 4,096.
-use Rattle.std.proofs.Common.{◌≡◌, ℕ, zero, suc, ◌+◌, ◌-◌, ◌*◌, ◌/◌, ◌%◌, ◌<◌, ◌≤◌, List, [], ◌∷◌, ◌++◌, length, map, take, drop, All, inl, inr, refl, sym, ap, subst, ◌∙◌, append_assoc, arith}
+use Rattle.std.proofs.Common.{◌≡◌, ℕ, zero, suc, ◌+◌, ◌-◌, ◌*◌, ◌/◌, ◌%◌, ◌<◌, ◌≤◌, List, [], ◌∷◌, ◌++◌, length, map}
+use Rattle.std.proofs.Common.{take, drop, All, inl, inr, refl, sym, ap, subst, ◌∙◌, append_assoc, arith}
 use Rattle.std.proofs.lemmas.Bool.{cases_lt}
-use Rattle.std.proofs.lemmas.List.{append-nil, length-append, length-drop, length-take-le, take-append-drop, take-append-le, map_push, take_all, take_at, drop-append-le, drop_at, nil_from_length}
+use Rattle.std.proofs.lemmas.List.{append-nil, length-append, length-drop, length-take-le, take-append-drop}
+use Rattle.std.proofs.lemmas.List.{take-append-le, map_push, take_all, take_at, drop-append-le, drop_at}
+use Rattle.std.proofs.lemmas.List.{nil_from_length}
 use Rattle.std.proofs.lemmas.List.Elements.{All-drop, All-take}
 use Rattle.std.proofs.lemmas.List.FromFn.{length-map-range_with_len, map-range_with_len_more, take-map-range_with_len}
 use Rattle.std.specs.Prelude.{min}
@@ -15,18 +18,22 @@ use Rattle.base_code.specs.Pieces.{parts}
 -- ---- what is true of each
 
 pub all_left : {A : Type 0} (IsA : A → Type 0) (front back : List A) → All IsA (front ++ back) → All IsA front
-all_left IsA front back all = subst (All IsA) (take_at front back (length front) refl) (All-take IsA (length front) (front ++ back) all)
+all_left IsA front back all = subst (All IsA) (take_at front back (length front) refl)
+    (All-take IsA (length front) (front ++ back) all)
 
 pub all_right : {A : Type 0} (IsA : A → Type 0) (front back : List A) → All IsA (front ++ back) → All IsA back
-all_right IsA front back all = subst (All IsA) (drop_at front back (length front) refl) (All-drop IsA (length front) (front ++ back) all)
+all_right IsA front back all =
+    subst (All IsA) (drop_at front back (length front) refl) (All-drop IsA (length front) (front ++ back) all)
 
 -- ---- parts
 
-map_range_same : {X : Type 0} (f g : ℕ → X) (a n : ℕ) → ((k : ℕ) → k < a + n → f k ≡ g k) → map f (range_with_len a n) ≡ map g (range_with_len a n)
+map_range_same : {X : Type 0} (f g : ℕ → X) (a n : ℕ) → ((k : ℕ) → k < a + n → f k ≡ g k)
+    → map f (range_with_len a n) ≡ map g (range_with_len a n)
 map_range_same f g a zero each = refl
 map_range_same f g a (suc n) each =
     let first : f a ≡ g a = each a (omega arith) in
-    let more : map f (range_with_len (a + 1) n) ≡ map g (range_with_len (a + 1) n) = map_range_same f g (a + 1) n (λ k lt. each k (omega (arith, lt))) in
+    let more : map f (range_with_len (a + 1) n) ≡ map g (range_with_len (a + 1) n) =
+    map_range_same f g (a + 1) n (λ k lt. each k (omega (arith, lt))) in
     (λ i. first i ∷ more i)
 
 whole_count : (n q : ℕ) → n ≡ q * 4096 → chunk_count n 4096 ≡ q
@@ -51,7 +58,9 @@ parts-push {A} items last full some short =
     let whole : length items ≡ q * 4096 = omega (arith, full) in
     let f : ℕ → List A = slice_chunk (items ++ last) 4096 in
     let g : ℕ → List A = slice_chunk items 4096 in
-    let count : chunk_count (length (items ++ last)) 4096 ≡ q + 1 = ap (λ n. chunk_count n 4096) (length-append items last) ∙ next_whole (length items) (length last) q whole some short in
+    let count : chunk_count (length (items ++ last)) 4096 ≡ q + 1 =
+    ap (λ n. chunk_count n 4096) (length-append items last)
+    ∙ next_whole (length items) (length last) q whole some short in
     let before : chunk_count (length items) 4096 ≡ q = whole_count (length items) q whole in
     let same : (k : ℕ) → k < 0 + q → f k ≡ g k = λ k lt.
     let at : k * 4096 + 4096 ≤ length items = omega (arith, whole, lt) in
@@ -99,12 +108,14 @@ parts-front {A} items more is = elim (cases_lt (length items) (length (items ++ 
       let f : ℕ → List A = slice_chunk (items ++ more) 4096 in
       let g : ℕ → List A = slice_chunk items 4096 in
       let before : chunk_count (length items) 4096 ≡ q = whole_count (length items) q whole in
-      let within : q ≤ chunk_count (length (items ++ more)) 4096 = some_count (length items) (length (items ++ more)) q whole lt in
+      let within : q ≤ chunk_count (length (items ++ more)) 4096 =
+      some_count (length items) (length (items ++ more)) q whole lt in
       let same : (k : ℕ) → k < 0 + q → f k ≡ g k = λ k less.
       let at : k * 4096 + 4096 ≤ length items = omega (arith, whole, less) in
       ap (take 4096) (drop-append-le (k * 4096) items more (omega (arith, at)))
       ∙ take-append-le 4096 (drop (k * 4096) items) more (omega (arith, at, length-drop (k * 4096) items)) in
-      ap (λ n. take n (map f (range_with_len 0 (chunk_count (length (items ++ more)) 4096)))) (length-map-range_with_len g 0 (chunk_count (length items) 4096) ∙ before)
+      ap (λ n. take n (map f (range_with_len 0 (chunk_count (length (items ++ more)) 4096))))
+      (length-map-range_with_len g 0 (chunk_count (length items) 4096) ∙ before)
       ∙ take-map-range_with_len f 0 (chunk_count (length (items ++ more)) 4096) q within
       ∙ map_range_same f g 0 q same ∙ ap (λ n. map g (range_with_len 0 n)) (sym before)
   | inr le ↦
@@ -118,7 +129,8 @@ parts-front {A} items more is = elim (cases_lt (length items) (length (items ++ 
 pub first_none : {A : Type 0} (count : ℕ) → AreFirst {A = A} count []
 first_none count = record { within = omega arith; whole = λ lt. refl }
 
-pub first_more : {A : Type 0} (count : ℕ) (items last : List A) → AreFirst count items → length items < count → length last ≡ next_count count (length items)
+pub first_more : {A : Type 0} (count : ℕ) (items last : List A) → AreFirst count items → length items < count
+    → length last ≡ next_count count (length items)
     → AreFirst count (items ++ last)
 first_more count items last is lt e =
     let len : length (items ++ last) ≡ length items + length last = length-append items last in
@@ -133,7 +145,8 @@ pub record Fewer {A : Type 0} (count : ℕ) (before last : List A) : Type 0 wher
   pub first : AreFirst count before
   pub next : length last ≡ next_count count (length before)
 
-pub first_less : {A : Type 0} (count : ℕ) (items : List A) (s : Split items) → AreFirst count items → Fewer count s.before s.last
+pub first_less : {A : Type 0} (count : ℕ) (items : List A) (s : Split items) → AreFirst count items
+    → Fewer count s.before s.last
 first_less count items s is =
     let len : length items ≡ length s.before + length s.last = ap length s.whole ∙ length-append s.before s.last in
     record {
@@ -148,13 +161,15 @@ first_less count items s is =
 -- ---- a loop over parts
 
 -- the pieces of the parts so far stand behind the others
-pub record HasPieces {A : Type 0} (spell : List A → List ℕ) (all rest : List A) (before now : List (List ℕ)) : Type 0 where
+pub record HasPieces {A : Type 0} (spell : List A
+    → List ℕ) (all rest : List A) (before now : List (List ℕ)) : Type 0 where
   pub front : List A
   pub whole : all ≡ front ++ rest
   pub first : AreFirst (length all) front
   pub pieces : now ≡ before ++ map spell (parts front)
 
-pub pieces_start : {A : Type 0} (spell : List A → List ℕ) (all : List A) (before : List (List ℕ)) → HasPieces spell all all before before
+pub pieces_start : {A : Type 0} (spell : List A → List ℕ) (all : List A) (before : List (List ℕ))
+    → HasPieces spell all all before before
 pieces_start spell all before = record {
   front = [];
   whole = refl;
@@ -162,23 +177,29 @@ pieces_start spell all before = record {
   pieces = sym (ap (λ t. before ++ map spell t) parts-nil ∙ append-nil before);
 }
 
-pub pieces_on : {A : Type 0} (spell : List A → List ℕ) (all rest part after : List A) (before now next : List (List ℕ)) → HasPieces spell all rest before now
-    → rest ≡ part ++ after → length part ≡ min 4096 (length rest) → 0 < length rest → next ≡ now ++ (spell part ∷ []) → HasPieces spell all after before next
+pub pieces_on : {A : Type 0} (spell : List A → List ℕ) (all rest part after : List A) (before now next : List (List ℕ))
+    → HasPieces spell all rest before now
+    → rest ≡ part ++ after → length part ≡ min 4096 (length rest) → 0 < length rest → next ≡ now ++ (spell part ∷ [])
+    → HasPieces spell all after before next
 pieces_on spell all rest part after before now next has e many some made =
     let len : length all ≡ length has.front + length rest = ap length has.whole ∙ length-append has.front rest in
     let lt : length has.front < length all = omega (arith, len, some) in
     let full : length has.front % 4096 ≡ 0 = has.first.whole lt in
-    let push : parts (has.front ++ part) ≡ parts has.front ++ (part ∷ []) = parts-push has.front part full (omega (arith, many, some)) (omega (arith, many)) in
+    let push : parts (has.front ++ part) ≡ parts has.front ++ (part ∷ []) =
+    parts-push has.front part full (omega (arith, many, some)) (omega (arith, many)) in
     record {
       front = has.front ++ part;
       whole = has.whole ∙ ap (λ t. has.front ++ t) e ∙ sym (append_assoc has.front part after);
       first = first_more (length all) has.front part has.first lt (omega (arith, many, len));
-      pieces = made ∙ ap (λ t. t ++ (spell part ∷ [])) has.pieces ∙ append_assoc before (map spell (parts has.front)) (spell part ∷ [])
+      pieces = made ∙ ap (λ t. t ++ (spell part ∷ [])) has.pieces ∙ append_assoc before (map spell (parts has.front))
+          (spell part ∷ [])
           ∙ ap (λ t. before ++ t) (sym (ap (map spell) push ∙ map_push spell (parts has.front) part));
     }
 
-pub all_of_part : {A : Type 0} (IsA : A → Type 0) (spell : List A → List ℕ) (all rest part after : List A) (before now : List (List ℕ))
+pub all_of_part : {A : Type 0} (IsA : A → Type 0) (spell : List A
+    → List ℕ) (all rest part after : List A) (before now : List (List ℕ))
     → HasPieces spell all rest before now → All IsA all → rest ≡ part ++ after → All IsA part
 all_of_part IsA spell all rest part after before now has each e =
-    let right : All IsA (part ++ after) = subst (All IsA) e (all_right IsA has.front rest (subst (All IsA) has.whole each)) in
+    let right : All IsA (part ++ after) =
+    subst (All IsA) e (all_right IsA has.front rest (subst (All IsA) has.whole each)) in
     all_left IsA part after right

@@ -1,5 +1,6 @@
 -- Pieces of receipts and of rows.
-use Rattle.std.proofs.Common.{◌≡◌, ℕ, ◌-◌, ◌^◌, ◌≤◌, List, [], ◌∷◌, ◌++◌, length, map, All, None, Some, refl, sym, ap, subst, ◌∙◌, append_assoc, append-nil, arith}
+use Rattle.std.proofs.Common.{◌≡◌, ℕ, ◌-◌, ◌^◌, ◌≤◌, List, [], ◌∷◌, ◌++◌, length, map, All, None, Some, refl, sym, ap}
+use Rattle.std.proofs.Common.{subst, ◌∙◌, append_assoc, append-nil, arith}
 use Rattle.std.specs.List.{AllByRecursion, flat_map}
 use Rattle.std.proofs.lemmas.List.{append_cancel_left, length-map}
 use Rattle.std.proofs.lemmas.List.Elements.{All-map, recursion_from_All}
@@ -13,7 +14,8 @@ use Rattle.code_bytes.specs.Pieces.{Fixed, Names, Numbers, One, name, number}
 use Rattle.code_bytes.specs.Stuck.{IsStuck, Pair, Stops, Times, left_at}
 use Rattle.code_bytes.specs.declared.stop.Stop.{Stop}
 use Rattle.code_bytes.specs.declared.stop.Stop.TheVariants as stop
-use Rattle.code_bytes.proofs.GrammarLemmas.{IsGrammar, fixed_grammar, names_grammar, numbers_grammar, pair_first, pair_grammar, pair_next, times_from}
+use Rattle.code_bytes.proofs.GrammarLemmas.{IsGrammar, fixed_grammar, names_grammar, numbers_grammar, pair_first}
+use Rattle.code_bytes.proofs.GrammarLemmas.{pair_grammar, pair_next, times_from}
 use Rattle.code_bytes.proofs.OnceLemmas.{append_once, name_apart, number_apart, tail_is}
 use Rattle.code_bytes.proofs.StuckLemmas.{parts_never}
 use Rattle.batch_code.specs.Spelling.{write_bytes}
@@ -30,7 +32,8 @@ use Rattle.base_code.specs.Pieces.{kept_bytes, piece_of, receipts_piece, rows_pi
 none_some : (a : ℕ) → None ≡ Some a → ⊥
 none_some a e = absurd cc
 
-begins_stuck : (n : ℕ) (text rest : List ℕ) (Text : List ℕ → Type 0) → Text text → (bytes : List ℕ) → bytes ≡ text ++ rest → IsStuck Text bytes n → ⊥
+begins_stuck : (n : ℕ) (text rest : List ℕ) (Text : List ℕ → Type 0) → Text text → (bytes : List ℕ)
+    → bytes ≡ text ++ rest → IsStuck Text bytes n → ⊥
 begins_stuck n text rest Text is bytes e s =
     let least = s.least text is in
     none_some least.0 (sym (parts_never text rest) ∙ ap (λ b. left_at text b) (sym e) ∙ least.1)
@@ -52,7 +55,8 @@ denied_as One Other stop.Memory from never = tt
 abbrev pub AreApart : {A : Type 0} → (A → Type 0) → (A → List ℕ) → Type 0
 AreApart {A} IsA spell = (a b : A) (r s : List ℕ) → IsA a → IsA b → spell a ++ r ≡ spell b ++ s → (a ≡ b) × (r ≡ s)
 
-items_apart : {A : Type 0} (IsA : A → Type 0) (spell : A → List ℕ) → AreApart IsA spell → (a b : List A) (r s : List ℕ) → length a ≡ length b
+items_apart : {A : Type 0} (IsA : A → Type 0) (spell : A → List ℕ) → AreApart IsA spell → (a b : List A) (r s : List ℕ)
+    → length a ≡ length b
     → AllByRecursion IsA a → AllByRecursion IsA b → flat_map spell a ++ r ≡ flat_map spell b ++ s → (a ≡ b) × (r ≡ s)
 items_apart IsA spell apart [] [] r s len is its e = (refl, e)
 items_apart IsA spell apart [] (y ∷ b) r s len is its e = absurd (omega (arith, len))
@@ -63,10 +67,12 @@ items_apart IsA spell apart (x ∷ a) (y ∷ b) r s len is its e =
     let more = items_apart IsA spell apart a b r s (omega (arith, len)) is.1 its.1 first.1 in
     ((λ i. first.0 i ∷ more.0 i), more.1)
 
-pub piece_once : {A : Type 0} (mark : ℕ) (IsA : A → Type 0) (spell : A → List ℕ) → AreApart IsA spell → (a b : List A) → All IsA a → All IsA b
+pub piece_once : {A : Type 0} (mark : ℕ) (IsA : A → Type 0) (spell : A → List ℕ) → AreApart IsA spell → (a b : List A)
+    → All IsA a → All IsA b
     → length a ≤ 4096 → length b ≤ 4096 → piece_of mark spell a ≡ piece_of mark spell b → a ≡ b
 piece_once mark IsA spell apart a b is its short low e =
-    let sizes = number_apart 2 4096 (length a) (length b) (flat_map spell a) (flat_map spell b) (omega arith) short low (tail_is _ _ _ _ (tail_is _ _ _ _ e)) in
+    let sizes = number_apart 2 4096 (length a) (length b) (flat_map spell a) (flat_map spell b) (omega arith) short
+    low (tail_is _ _ _ _ (tail_is _ _ _ _ e)) in
     (items_apart IsA spell apart a b [] [] sizes.0 (recursion_from_All IsA a is) (recursion_from_All IsA b its)
     (append-nil (flat_map spell a) ∙ sizes.1 ∙ sym (append-nil (flat_map spell b)))).0
 
@@ -74,14 +80,20 @@ piece_once mark IsA spell apart a b is its short low e =
 
 pub kept_apart : AreApart IsKept kept_bytes
 kept_apart one other r s is its e =
-    let ids = name_apart one.id other.id ((one.digest ++ number 8 one.moment) ++ r) ((other.digest ++ number 8 other.moment) ++ s)
-    (sym (append_assoc (name one.id) (one.digest ++ number 8 one.moment) r) ∙ e ∙ append_assoc (name other.id) (other.digest ++ number 8 other.moment) s) in
-    let digests = append_once one.digest other.digest (number 8 one.moment ++ r) (number 8 other.moment ++ s) (is.digest ∙ sym its.digest)
-    (sym (append_assoc one.digest (number 8 one.moment) r) ∙ ids.1 ∙ append_assoc other.digest (number 8 other.moment) s) in
-    let moments = number_apart 8 (2 ^ 64 - 1) one.moment other.moment r s (omega arith) (omega (arith, is.moment)) (omega (arith, its.moment)) digests.1 in
+    let ids = name_apart one.id other.id ((one.digest ++ number 8 one.moment) ++ r)
+    ((other.digest ++ number 8 other.moment) ++ s)
+    (sym (append_assoc (name one.id) (one.digest ++ number 8 one.moment) r) ∙ e
+    ∙ append_assoc (name other.id) (other.digest ++ number 8 other.moment) s) in
+    let digests = append_once one.digest other.digest (number 8 one.moment ++ r) (number 8 other.moment ++ s) (is.digest
+    ∙ sym its.digest)
+    (sym (append_assoc one.digest (number 8 one.moment) r) ∙ ids.1
+    ∙ append_assoc other.digest (number 8 other.moment) s) in
+    let moments = number_apart 8 (2 ^ 64 - 1) one.moment other.moment r s (omega arith) (omega (arith, is.moment))
+    (omega (arith, its.moment)) digests.1 in
     ((λ i. record { id = ids.0 i; digest = digests.0 i; moment = moments.0 i }), moments.1)
 
-pub receipts_once : (a b : List KeptData) → All IsKept a → All IsKept b → length a ≤ 4096 → length b ≤ 4096 → receipts_piece a ≡ receipts_piece b → a ≡ b
+pub receipts_once : (a b : List KeptData) → All IsKept a → All IsKept b → length a ≤ 4096 → length b ≤ 4096
+    → receipts_piece a ≡ receipts_piece b → a ≡ b
 receipts_once a b is its short low e = piece_once 0x44 IsKept kept_bytes kept_apart a b is its short low e
 
 abbrev Moments : List ℕ → Type 0
@@ -140,10 +152,12 @@ puts_once (x ∷ a) (y ∷ b) e =
 pub all_puts : (rows : Rows) → All (λ row. IsStored (write_of row)) rows → All IsStored (map write_of rows)
 all_puts rows all = All-map IsStored write_of rows all
 
-pub rows_once : (a b : Rows) → All (λ row. IsStored (write_of row)) a → All (λ row. IsStored (write_of row)) b → length a ≤ 4096 → length b ≤ 4096
+pub rows_once : (a b : Rows) → All (λ row. IsStored (write_of row)) a → All (λ row. IsStored (write_of row)) b
+    → length a ≤ 4096 → length b ≤ 4096
     → rows_piece a ≡ rows_piece b → a ≡ b
 rows_once a b is its short low e =
-    puts_once a b (piece_once 0x45 IsStored write_bytes write_apart (map write_of a) (map write_of b) (all_puts a is) (all_puts b its)
+    puts_once a b (piece_once 0x45 IsStored write_bytes write_apart (map write_of a) (map write_of b) (all_puts a is)
+    (all_puts b its)
     (omega (arith, length-map a write_of, short)) (omega (arith, length-map b write_of, low)) e)
 
 -- ---- parts of what can be stored
@@ -156,16 +170,20 @@ stored_left front back is = record {
 
 -- ---- the head of a piece
 
-pub head_mark : (mark count : ℕ) (piece : List ℕ) (why : Stop) → Stops (One mark) piece why → Denies ((rest : List ℕ) × GoesOn mark count piece rest) why
+pub head_mark : (mark count : ℕ) (piece : List ℕ) (why : Stop) → Stops (One mark) piece why
+    → Denies ((rest : List ℕ) × GoesOn mark count piece rest) why
 head_mark mark count piece why s =
-    denied (One mark) ((rest : List ℕ) × GoesOn mark count piece rest) piece why s (λ thing. (mark ∷ [], 0x01 ∷ (number 2 count ++ thing.0), refl, thing.1))
+    denied (One mark) ((rest : List ℕ) × GoesOn mark count piece rest) piece why
+    s (λ thing. (mark ∷ [], 0x01 ∷ (number 2 count ++ thing.0), refl, thing.1))
 
 pub head_second : (mark count : ℕ) (piece rest : List ℕ) (why : Stop) → piece ≡ mark ∷ rest → Stops (One 0x01) rest why
     → Denies ((rest : List ℕ) × GoesOn mark count piece rest) why
 head_second mark count piece rest why e s =
-    denied (One 0x01) ((rest : List ℕ) × GoesOn mark count piece rest) rest why s (λ thing. (0x01 ∷ [], number 2 count ++ thing.0, refl, tail_is _ _ _ _ (sym e ∙ thing.1)))
+    denied (One 0x01) ((rest : List ℕ) × GoesOn mark count piece rest) rest why
+    s (λ thing. (0x01 ∷ [], number 2 count ++ thing.0, refl, tail_is _ _ _ _ (sym e ∙ thing.1)))
 
-pub head_count : (mark count : ℕ) (piece rest after : List ℕ) (why : Stop) → piece ≡ mark ∷ rest → rest ≡ 0x01 ∷ after → Stops (Numbers 2 count count) after why
+pub head_count : (mark count : ℕ) (piece rest after : List ℕ) (why : Stop) → piece ≡ mark ∷ rest → rest ≡ 0x01 ∷ after
+    → Stops (Numbers 2 count count) after why
     → Denies ((rest : List ℕ) × GoesOn mark count piece rest) why
 head_count mark count piece rest after why e e2 s =
     denied (Numbers 2 count count) ((rest : List ℕ) × GoesOn mark count piece rest) after why s (λ thing. (
@@ -178,21 +196,27 @@ head_count mark count piece rest after why e e2 s =
 -- ---- the items of a piece
 
 -- a piece of these items goes on with them
-items_on : {A : Type 0} (mark count : ℕ) (spell : A → List ℕ) (IsA : A → Type 0) (piece : List ℕ) (items : List A) → HasItems mark spell IsA count piece items
+items_on : {A : Type 0} (mark count : ℕ) (spell : A → List ℕ) (IsA : A → Type 0) (piece : List ℕ) (items : List A)
+    → HasItems mark spell IsA count piece items
     → GoesOn mark count piece (flat_map spell items)
-items_on mark count spell IsA piece items has = has.spelled ∙ ap (λ n. mark ∷ 0x01 ∷ (number 2 n ++ flat_map spell items)) has.many
+items_on mark count spell IsA piece items has =
+    has.spelled ∙ ap (λ n. mark ∷ 0x01 ∷ (number 2 n ++ flat_map spell items)) has.many
 
-goes_once : (mark count : ℕ) (piece rest other : List ℕ) → GoesOn mark count piece rest → GoesOn mark count piece other → rest ≡ other
+goes_once : (mark count : ℕ) (piece rest other : List ℕ) → GoesOn mark count piece rest
+    → GoesOn mark count piece other → rest ≡ other
 goes_once mark count piece rest other one two =
     append_cancel_left (number 2 count) rest other (tail_is _ _ _ _ (tail_is _ _ _ _ (sym one ∙ two)))
 
 pub items_headless : {A : Type 0} (mark count : ℕ) (spell : A → List ℕ) (IsA : A → Type 0) (piece : List ℕ) (why : Stop)
-    → Denies ((rest : List ℕ) × GoesOn mark count piece rest) why → Denies ((items : List A) × HasItems mark spell IsA count piece items) why
+    → Denies ((rest : List ℕ) × GoesOn mark count piece rest) why
+    → Denies ((items : List A) × HasItems mark spell IsA count piece items) why
 items_headless {A} mark count spell IsA piece why never =
-    denied_as ((rest : List ℕ) × GoesOn mark count piece rest) ((items : List A) × HasItems mark spell IsA count piece items) why
+    denied_as ((rest : List ℕ) × GoesOn mark count piece rest)
+    ((items : List A) × HasItems mark spell IsA count piece items) why
     (λ thing. (flat_map spell thing.0, items_on mark count spell IsA piece thing.0 thing.1)) never
 
-pub items_stop : {A : Type 0} (mark count : ℕ) (spell : A → List ℕ) (IsA : A → Type 0) (Text : List ℕ → Type 0) (piece rest : List ℕ) (why : Stop)
+pub items_stop : {A : Type 0} (mark count : ℕ) (spell : A → List ℕ) (IsA : A → Type 0) (Text : List ℕ
+    → Type 0) (piece rest : List ℕ) (why : Stop)
     → ((a : A) → IsA a → Text (spell a)) → GoesOn mark count piece rest → Stops (Times count Text) rest why
     → Denies ((items : List A) × HasItems mark spell IsA count piece items) why
 items_stop {A} mark count spell IsA Text piece rest why each goes s =
@@ -200,16 +224,22 @@ items_stop {A} mark count spell IsA Text piece rest why each goes s =
     let has = thing.1 in (
       flat_map spell thing.0,
       [],
-      subst (λ n. Times n Text (flat_map spell thing.0)) has.many (times_from IsA spell Text thing.0 each (recursion_from_All IsA thing.0 has.all)),
-      goes_once mark count piece rest (flat_map spell thing.0) goes (items_on mark count spell IsA piece thing.0 has) ∙ sym (append-nil (flat_map spell thing.0)),
+      subst (λ n. Times n Text (flat_map spell thing.0))
+          has.many (times_from IsA spell Text thing.0 each (recursion_from_All IsA thing.0 has.all)),
+      goes_once mark count piece rest (flat_map spell thing.0) goes (items_on mark count spell IsA piece thing.0 has)
+          ∙ sym (append-nil (flat_map spell thing.0)),
     ))
 
-pub items_followed : {A : Type 0} (mark count : ℕ) (spell : A → List ℕ) (IsA : A → Type 0) (piece rest after : List ℕ) (items : List A) → AreApart IsA spell
-    → GoesOn mark count piece rest → All IsA items → length items ≡ count → rest ≡ flat_map spell items ++ after → (after ≡ [] → ⊥)
+pub items_followed : {A : Type 0} (mark count : ℕ) (spell : A → List ℕ) (IsA : A
+    → Type 0) (piece rest after : List ℕ) (items : List A) → AreApart IsA spell
+    → GoesOn mark count piece rest → All IsA items → length items ≡ count → rest ≡ flat_map spell items ++ after
+    → (after ≡ [] → ⊥)
     → ¬ ((items : List A) × HasItems mark spell IsA count piece items)
 items_followed {A} mark count spell IsA piece rest after items apart goes all many e more (other, has) =
-    let same = goes_once mark count piece rest (flat_map spell other) goes (items_on mark count spell IsA piece other has) in
-    more (items_apart IsA spell apart items other after [] (many ∙ sym has.many) (recursion_from_All IsA items all) (recursion_from_All IsA other has.all)
+    let same = goes_once mark count piece rest (flat_map spell other)
+    goes (items_on mark count spell IsA piece other has) in
+    more (items_apart IsA spell apart items other after [] (many ∙ sym has.many) (recursion_from_All IsA items all)
+    (recursion_from_All IsA other has.all)
     (sym e ∙ same ∙ sym (append-nil (flat_map spell other)))).1
 
 -- ---- a receipt that was read
@@ -217,20 +247,25 @@ items_followed {A} mark count spell IsA piece rest after items apart goes all ma
 pub kept_first : (bytes : List ℕ) (why : Stop) → Stops (Names is_import_byte 64) bytes why → Stops Receipts bytes why
 kept_first bytes why s = pair_first (Names is_import_byte 64) AfterId bytes why after_id_grammar s
 
-pub kept_digest : (bytes rest id : List ℕ) (why : Stop) → IsImportId id → bytes ≡ name id ++ rest → Stops (Fixed 32) rest why → Stops Receipts bytes why
+pub kept_digest : (bytes rest id : List ℕ) (why : Stop) → IsImportId id → bytes ≡ name id ++ rest
+    → Stops (Fixed 32) rest why → Stops Receipts bytes why
 kept_digest bytes rest id why is e s =
-    pair_next (Names is_import_byte 64) AfterId bytes (name id) rest why import_grammar (is_text is_import_byte 64 id is) e
+    pair_next (Names is_import_byte 64) AfterId bytes (name id) rest why import_grammar
+    (is_text is_import_byte 64 id is) e
     (pair_first (Fixed 32) Moments rest why moments_grammar s)
 
-pub kept_moment : (bytes rest after id digest : List ℕ) (why : Stop) → IsImportId id → bytes ≡ name id ++ rest → length digest ≡ 32 → rest ≡ digest ++ after
+pub kept_moment : (bytes rest after id digest : List ℕ) (why : Stop) → IsImportId id → bytes ≡ name id ++ rest
+    → length digest ≡ 32 → rest ≡ digest ++ after
     → Stops Moments after why → Stops Receipts bytes why
 kept_moment bytes rest after id digest why is e len e2 s =
-    pair_next (Names is_import_byte 64) AfterId bytes (name id) rest why import_grammar (is_text is_import_byte 64 id is) e
+    pair_next (Names is_import_byte 64) AfterId bytes (name id) rest why import_grammar
+    (is_text is_import_byte 64 id is) e
     (pair_next (Fixed 32) Moments rest digest after why (fixed_grammar 32) len e2 s)
 
 -- ---- the first piece
 
-pub first_b : (piece rest after : List ℕ) (why : Stop) → piece ≡ 0x43 ∷ rest → rest ≡ 0x01 ∷ after → Stops (Numbers 8 1 (2 ^ 64 - 1)) after why
+pub first_b : (piece rest after : List ℕ) (why : Stop) → piece ≡ 0x43 ∷ rest → rest ≡ 0x01 ∷ after
+    → Stops (Numbers 8 1 (2 ^ 64 - 1)) after why
     → Denies ((b : ℕ) × (count : ℕ) × IsFirstPiece piece b count) why
 first_b piece rest after why e e2 s =
     denied (Numbers 8 1 (2 ^ 64 - 1)) ((b : ℕ) × (count : ℕ) × IsFirstPiece piece b count) after why s (λ thing.
@@ -241,7 +276,8 @@ first_b piece rest after why e e2 s =
       tail_is _ _ _ _ (sym e2 ∙ tail_is _ _ _ _ (sym e ∙ is.spelled)),
     ))
 
-pub first_count : (piece rest after last : List ℕ) (b : ℕ) (why : Stop) → piece ≡ 0x43 ∷ rest → rest ≡ 0x01 ∷ after → after ≡ number 8 b ++ last → b ≤ 2 ^ 64 - 1
+pub first_count : (piece rest after last : List ℕ) (b : ℕ) (why : Stop) → piece ≡ 0x43 ∷ rest → rest ≡ 0x01 ∷ after
+    → after ≡ number 8 b ++ last → b ≤ 2 ^ 64 - 1
     → Stops (Numbers 4 0 400000) last why → Denies ((b : ℕ) × (count : ℕ) × IsFirstPiece piece b count) why
 first_count piece rest after last b why e e2 e3 most s =
     denied (Numbers 4 0 400000) ((b : ℕ) × (count : ℕ) × IsFirstPiece piece b count) last why s (λ thing.

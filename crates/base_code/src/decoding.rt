@@ -9,8 +9,8 @@ use crate::fault::BaseFault;
 use batch_code::Names;
 use std::alloc::Global;
 
-/// Reads the pieces of a base. With none it is that of a new book, behind no batch. The keys of its rows share names with
-/// each other and with those that were read with the same `names`.
+/// Reads the pieces of a base. With none it is that of a new book, behind no batch. The keys of its rows share names
+/// with each other and with those that were read with the same `names`.
 pub fn decode_base(alloc: Global, names: &mut Names, pieces: &[Vec<u8>]) -> Result<Base, BaseFault>
     ensures ok { IfOk result (λ base. IsBase base × (map vec_items pieces.now ≡ base_pieces base)) }
     ensures err { IfErr result (IsBaseFault (map vec_items pieces.now)) }

@@ -1,8 +1,10 @@
--- What good rows keep under a batch whose writes fit and whose version rows are right: all but what the rows name and who has a
+-- What good rows keep under a batch whose writes fit and whose version rows are right: all but what the rows name and
+-- who has a
 -- prefix.
 use Rattle.std.proofs.Common.{◌≡◌, refl, ap, sym, ◌∙◌, subst}
 use Rattle.std.proofs.lemmas.Bool.{both_ways}
-use Rattle.std.specs.Prelude.{Bool, true, false, not, cond, ◌&&◌, Decides, List, [], ◌∷◌, ◌++◌, Option, Some, None, IfSome, is_some, All}
+use Rattle.std.specs.Prelude.{Bool, true, false, not, cond, ◌&&◌, Decides, List, [], ◌∷◌, ◌++◌, Option, Some, None}
+use Rattle.std.specs.Prelude.{IfSome, is_some, All}
 use Rattle.std.proofs.lemmas.List.Elements.{recursion_from_All}
 use Rattle.std.specs.List.{AllByRecursion}
 use Rattle.std.specs.Ordering.{is_eq}
@@ -38,11 +40,13 @@ put_fits at None of takes = takes
 put_fits at (Some v) of takes = (batch_key at of, takes)
 
 -- so the value at a key fits after a batch
-value_fits : (writes : List Write) (old : Option Value) (at : Key) → AllByRecursion FitsBatch writes → IfSome old (Fits at)
+value_fits : (writes : List Write) (old : Option Value) (at : Key) → AllByRecursion FitsBatch writes
+    → IfSome old (Fits at)
     → IfSome (value_after old writes at) (Fits at)
 value_fits [] old at all fit = fit
 value_fits (write ∷ writes) old at all fit =
-    value_fits writes (cond (is_eq (key_cmp at write.key)) write.value old) at all.1 (by (is_eq (key_cmp at write.key)) refl)
+    value_fits writes (cond (is_eq (key_cmp at write.key)) write.value old) at
+    all.1 (by (is_eq (key_cmp at write.key)) refl)
   where
     by : (b : Bool) → is_eq (key_cmp at write.key) ≡ b → IfSome (cond b write.value old) (Fits at)
     by true e = rw (one_key at write.key e) (put_fits write.key write.value all.0.0 all.0.1)
@@ -88,17 +92,21 @@ edits_fit (write ∷ writes) all = by (edits_fit writes all.1) (is_version write
 
 -- declared resources have versions after edits with their version rows
 versions_stay : (rows : Rows) (edits : List Write) (of : Resource) → AreGood rows → AllByRecursion FitsEdit edits
-    → is_declared (after rows (edits ++ sequence_writes rows edits)) of ≡ true → has_row (after rows (edits ++ sequence_writes rows edits)) (key.Seq of) ≡ true
+    → is_declared (after rows (edits ++ sequence_writes rows edits)) of ≡ true
+    → has_row (after rows (edits ++ sequence_writes rows edits)) (key.Seq of) ≡ true
 versions_stay rows edits of good fit h =
     rw (value_of-batch rows edits of good.sorted fit)
-    (by (is_touched edits of) (is_declared (after rows edits) of) (is_declared rows of) refl refl refl (sym (is_declared-batch rows edits of good.sorted) ∙ h))
+    (by (is_touched edits of) (is_declared (after rows edits) of) (is_declared rows of) refl refl
+    refl (sym (is_declared-batch rows edits of good.sorted) ∙ h))
   where
-    by : (t d b : Bool) → is_touched edits of ≡ t → is_declared (after rows edits) of ≡ d → is_declared rows of ≡ b → d ≡ true
+    by : (t d b : Bool) → is_touched edits of ≡ t → is_declared (after rows edits) of ≡ d
+        → is_declared rows of ≡ b → d ≡ true
         → is_some (cond (t && d) (next_of rows of) (value_of rows (key.Seq of))) ≡ true
     by t false b f e g h = cc
     by true true b f e g h = refl
     by false true true f e g h = good.versions of g
-    by false true false f e g h = absurd (both_ways (is_touched edits of) f (gained_touched rows edits of good.sorted g e))
+    by false true false f e g h = absurd
+        (both_ways (is_touched edits of) f (gained_touched rows edits of good.sorted g e))
 
 -- ---- all of it
 
@@ -107,12 +115,14 @@ pub good_after : (rows : Rows) (writes : List Write) → AreGood rows → All Fi
     → AreDeclared (after rows writes) → HaveOnePid (after rows writes) → AreGood (after rows writes)
 good_after rows writes good fit keeps declared one_pid = record {
   sorted = sorted_after rows writes good.sorted;
-  fit = λ at. rw (value_of-after rows writes at good.sorted) (value_fits writes (value_of rows at) at all (good.fit at));
+  fit = λ at. rw (value_of-after rows writes at good.sorted)
+      (value_fits writes (value_of rows at) at all (good.fit at));
   epoch = ap is_some (value_of-after-none rows writes key.Epoch good.sorted (none_epoch writes all)) ∙ good.epoch;
   window = ap is_some (value_of-after-none rows writes key.Window good.sorted (none_window writes all)) ∙ good.window;
   declared = declared;
   one_pid = one_pid;
-  versions = λ of. subst (λ (w : List Write). is_declared (after rows w) of ≡ true → has_row (after rows w) (key.Seq of) ≡ true) (sym keeps)
+  versions = λ of. subst (λ (w : List Write). is_declared (after rows w) of ≡ true
+      → has_row (after rows w) (key.Seq of) ≡ true) (sym keeps)
       (versions_stay rows (edits_in writes) of good (edits_fit writes all));
 }
   where
@@ -120,7 +130,8 @@ good_after rows writes good fit keeps declared one_pid = record {
     all = recursion_from_All FitsBatch writes fit
 
 -- so they are good exactly where a prefix is in one PID of a network at most, once what they name is declared
-pub good_decided : (rows next : Rows) (writes : List Write) (one : Bool) → AreGood rows → All FitsBatch writes → KeepsVersions rows writes → next ≡ after rows writes
+pub good_decided : (rows next : Rows) (writes : List Write) (one : Bool) → AreGood rows → All FitsBatch writes
+    → KeepsVersions rows writes → next ≡ after rows writes
     → AreDeclared next → Decides one (HaveOnePid next) → Decides one (AreGood (after rows writes))
 good_decided rows next writes one good fit keeps is declared decides = (
   λ h. good_after rows writes good fit keeps (subst AreDeclared is declared) (subst HaveOnePid is (decides.0 h)),

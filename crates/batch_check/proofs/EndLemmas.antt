@@ -4,7 +4,8 @@ use Rattle.std.proofs.Math.Seq.{drop-append_seam, take-append_seam}
 use Rattle.std.proofs.lemmas.Bool.{and_from, and_parts, eq-eqb, eqb-true, le-leb}
 use Rattle.std.proofs.lemmas.List.{append-nil, length-append, take-append-drop}
 use Rattle.std.proofs.lemmas.List.Elements.{filter-append}
-use Rattle.std.specs.Prelude.{ℕ, ◌+◌, ◌-◌, Bool, true, false, not, cond, ◌&&◌, ◌==◌, nat_le, Decides, List, [], ◌∷◌, ◌++◌, length, take, drop, filter, map, Option, Some, None, is_some}
+use Rattle.std.specs.Prelude.{ℕ, ◌+◌, ◌-◌, Bool, true, false, not, cond, ◌&&◌, ◌==◌, nat_le, Decides, List, [], ◌∷◌}
+use Rattle.std.specs.Prelude.{◌++◌, length, take, drop, filter, map, Option, Some, None, is_some}
 use Rattle.std.specs.BTreeSet.{BTreeSet, IsOrdered}
 use Rattle.std.specs.Cmp.Lexicographic.{pointwise}
 use Rattle.std.specs.Ordering.{is_eq}
@@ -44,8 +45,10 @@ value_after-edits : (writes : List Write) (old : Option Value) (at : Key) → is
 value_after-edits [] old at h = refl
 value_after-edits (write ∷ writes) old at h = by (λ v. value_after-edits writes v at h) (is_version write.key) refl
   where
-    by : ((v : Option Value) → value_after v writes at ≡ value_after v (edits_in writes) at) → (b : Bool) → is_version write.key ≡ b
-        → value_after (cond (is_eq (key_cmp at write.key)) write.value old) writes at ≡ value_after old (cond (not b) (write ∷ edits_in writes) (edits_in writes)) at
+    by : ((v : Option Value) → value_after v writes at ≡ value_after v (edits_in writes) at) → (b : Bool)
+        → is_version write.key ≡ b
+        → value_after (cond (is_eq (key_cmp at write.key)) write.value old) writes at
+        ≡ value_after old (cond (not b) (write ∷ edits_in writes) (edits_in writes)) at
     by more true e = rw (apart at write.key h e) (more old)
     by more false e = more (cond (is_eq (key_cmp at write.key)) write.value old)
 
@@ -53,13 +56,15 @@ value_after-edits (write ∷ writes) old at h = by (λ v. value_after-edits writ
 pub value_of-edits_in : (rows : Rows) (writes : List Write) (at : Key) → AreSorted rows → is_version at ≡ false
     → value_of (after rows writes) at ≡ value_of (after rows (edits_in writes)) at
 value_of-edits_in rows writes at s h =
-    value_of-after rows writes at s ∙ (value_after-edits writes (value_of rows at) at h ∙ sym (value_of-after rows (edits_in writes) at s))
+    value_of-after rows writes at s
+    ∙ (value_after-edits writes (value_of rows at) at h ∙ sym (value_of-after rows (edits_in writes) at s))
 
 -- and what is declared
 is_declared-edits_in : (rows : Rows) (writes : List Write) (of : Resource) → AreSorted rows
     → is_declared (after rows writes) of ≡ is_declared (after rows (edits_in writes)) of
 is_declared-edits_in rows writes (resource.Net net) s = ap is_some (value_of-edits_in rows writes (key.Net net) s refl)
-is_declared-edits_in rows writes (resource.Cost net metric) s = ap is_some (value_of-edits_in rows writes (key.Metric net metric) s refl)
+is_declared-edits_in rows writes (resource.Cost net metric) s =
+    ap is_some (value_of-edits_in rows writes (key.Metric net metric) s refl)
 is_declared-edits_in rows writes (resource.Prop net) s = ap is_some (value_of-edits_in rows writes (key.Net net) s refl)
 
 -- two tests that agree pick the same
@@ -68,7 +73,8 @@ picked p q same [] = refl
 picked p q same (of ∷ ofs) = rw (same of, picked p q same ofs) refl
 
 -- the version rows of the declared ones among what the edits of a batch touch are those of the edits
-pub batch_versions : (rows next : Rows) (writes : List Write) (all : BTreeSet Resource) → AreSorted rows → next ≡ after rows writes
+pub batch_versions : (rows next : Rows) (writes : List Write) (all : BTreeSet Resource) → AreSorted rows
+    → next ≡ after rows writes
     → IsOrdered resource_cmp all → HasTouched rows (edits_in writes) all
     → map (next_version rows) (filter (is_declared next) all.keys) ≡ sequence_writes rows (edits_in writes)
 batch_versions rows next writes all s is ordered touched =
@@ -92,9 +98,11 @@ abbrev writing : Key → Option Value → Write
 writing at v = record { key = at; value = v }
 
 -- a write that gives the next version of a resource is that write
-gives_exact : (rows : Rows) (write : Write) (of : Resource) → gives_version write (next_version rows of) ≡ true → write ≡ next_version rows of
+gives_exact : (rows : Rows) (write : Write) (of : Resource) → gives_version write (next_version rows of) ≡ true
+    → write ≡ next_version rows of
 gives_exact rows write of h =
-    let both = and_parts (is_eq (key_cmp write.key (key.Seq of))) (number_in write.value == (version_of rows of + 1)) h in
+    let both = and_parts (is_eq (key_cmp write.key (key.Seq of)))
+    (number_in write.value == (version_of rows of + 1)) h in
     let at : write.key ≡ key.Seq of = one_key write.key (key.Seq of) both.0 in
     let v : write.value ≡ Some (value.Num (version_of rows of + 1)) =
     only_number write.value (version_of rows of) (eqb-true (number_in write.value) (version_of rows of + 1) both.1) in
@@ -107,17 +115,20 @@ gives_itself rows of = rw (key_cmp_itself (key.Seq of)) (eq-eqb (version_of rows
 -- ---- all of them
 
 -- writes that give the next versions of resources, one by one, are the version rows
-all_exact : (rows : Rows) (writes : List Write) (ofs : List Resource) → pointwise gives_version writes (map (next_version rows) ofs) ≡ true
+all_exact : (rows : Rows) (writes : List Write) (ofs : List Resource)
+    → pointwise gives_version writes (map (next_version rows) ofs) ≡ true
     → writes ≡ map (next_version rows) ofs
 all_exact rows [] [] h = refl
 all_exact rows [] (of ∷ ofs) h = cc
 all_exact rows (write ∷ writes) [] h = cc
 all_exact rows (write ∷ writes) (of ∷ ofs) h =
-    let both = and_parts (gives_version write (next_version rows of)) (pointwise gives_version writes (map (next_version rows) ofs)) h in
+    let both = and_parts (gives_version write (next_version rows of))
+    (pointwise gives_version writes (map (next_version rows) ofs)) h in
     rw (gives_exact rows write of both.0, all_exact rows writes ofs both.1) refl
 
 -- and version rows give them
-all_give : (rows : Rows) (ofs : List Resource) → pointwise gives_version (map (next_version rows) ofs) (map (next_version rows) ofs) ≡ true
+all_give : (rows : Rows) (ofs : List Resource)
+    → pointwise gives_version (map (next_version rows) ofs) (map (next_version rows) ofs) ≡ true
 all_give rows [] = refl
 all_give rows (of ∷ ofs) = and_from _ _ (gives_itself rows of) (all_give rows ofs)
 
@@ -138,7 +149,8 @@ pub edits_are : (writes : List Write) → are_edits (edits_in writes) ≡ true
 edits_are [] = refl
 edits_are (write ∷ writes) = by (edits_are writes) (not (is_version write.key)) refl
   where
-    by : are_edits (edits_in writes) ≡ true → (b : Bool) → not (is_version write.key) ≡ b → are_edits (cond b (write ∷ edits_in writes) (edits_in writes)) ≡ true
+    by : are_edits (edits_in writes) ≡ true → (b : Bool) → not (is_version write.key) ≡ b
+        → are_edits (cond b (write ∷ edits_in writes) (edits_in writes)) ≡ true
     by more true e = and_from (not (is_version write.key)) (are_edits (edits_in writes)) e more
     by more false e = more
 
@@ -146,10 +158,17 @@ edits_are (write ∷ writes) = by (edits_are writes) (not (is_version write.key)
 ends_back : (rows : Rows) (edits : List Write) (ofs : List Resource) → are_edits edits ≡ true
     → ends_in (edits ++ map (next_version rows) ofs) (map (next_version rows) ofs) ≡ true
 ends_back rows edits ofs are =
-    let whole : length (edits ++ map (next_version rows) ofs) ≡ length edits + length (map (next_version rows) ofs) = length-append edits (map (next_version rows) ofs) in
-    let front : length (edits ++ map (next_version rows) ofs) - length (map (next_version rows) ofs) ≡ length edits = omega (arith, whole) in
-    and_from _ _ (le-leb (length (map (next_version rows) ofs)) (length (edits ++ map (next_version rows) ofs)) (omega (arith, whole)))
-    (rw (front, take-append_seam edits (map (next_version rows) ofs), drop-append_seam edits (map (next_version rows) ofs)) (and_from _ _ are (all_give rows ofs)))
+    let whole : length (edits ++ map (next_version rows) ofs) ≡ length edits + length (map (next_version rows) ofs) =
+    length-append edits (map (next_version rows) ofs) in
+    let front : length (edits ++ map (next_version rows) ofs) - length (map (next_version rows) ofs) ≡ length edits =
+    omega (arith, whole) in
+    and_from _ _ (le-leb (length (map (next_version rows) ofs)) (length (edits ++ map (next_version rows) ofs))
+    (omega (arith, whole)))
+    (rw (
+      front,
+      take-append_seam edits (map (next_version rows) ofs),
+      drop-append_seam edits (map (next_version rows) ofs),
+    ) (and_from _ _ are (all_give rows ofs)))
 
 -- the end of a batch tells whether its version rows are those of its edits
 pub ends_tell : (rows : Rows) (writes versions : List Write) → versions ≡ sequence_writes rows (edits_in writes)
@@ -162,17 +181,21 @@ ends_tell rows writes versions is = (there, back)
     there : ends_in writes versions ≡ true → KeepsVersions rows writes
     there h =
         let k : ℕ = length writes - length versions in
-        let rest = and_parts (nat_le (length versions) (length writes)) (are_edits (take k writes) && pointwise gives_version (drop k writes) versions) h in
+        let rest = and_parts (nat_le (length versions) (length writes))
+        (are_edits (take k writes) && pointwise gives_version (drop k writes) versions) h in
         let both = and_parts (are_edits (take k writes)) (pointwise gives_version (drop k writes) versions) rest.1 in
         let end : drop k writes ≡ map (next_version rows) ofs =
-        all_exact rows (drop k writes) ofs (ap (λ (w : List Write). pointwise gives_version (drop k writes) w) (sym is) ∙ both.1) in
+        all_exact rows (drop k writes) ofs (ap (λ (w : List Write). pointwise gives_version (drop k writes) w)
+        (sym is) ∙ both.1) in
         let own : edits_in writes ≡ take k writes =
         ap edits_in (sym (take-append-drop k writes))
         ∙ (filter-append (λ write. not (is_version write.key)) (take k writes) (drop k writes)
         ∙ (ap (λ (w : List Write). edits_in (take k writes) ++ edits_in w) end
         ∙ (rw (no_edits rows ofs, all_edits (take k writes) both.0) (append-nil (take k writes))))) in
         sym (take-append-drop k writes)
-        ∙ (ap (λ (w : List Write). take k writes ++ w) end ∙ ap (λ (w : List Write). w ++ map (next_version rows) ofs) (sym own))
+        ∙ (ap (λ (w : List Write). take k writes ++ w) end
+        ∙ ap (λ (w : List Write). w ++ map (next_version rows) ofs) (sym own))
 
     back : KeepsVersions rows writes → ends_in writes versions ≡ true
-    back keeps = subst (λ (w : List Write). ends_in w versions ≡ true) (sym keeps) (rw is (ends_back rows (edits_in writes) ofs (edits_are writes)))
+    back keeps = subst (λ (w : List Write). ends_in w versions ≡ true) (sym keeps)
+        (rw is (ends_back rows (edits_in writes) ofs (edits_are writes)))

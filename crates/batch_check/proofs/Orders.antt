@@ -42,7 +42,8 @@ pub place_cmp_total : IsTotalOrder place_cmp
 place_cmp_total = by_place_cmp (λ R. IsTotalOrder R) place_order.Laws.total-law
 
 -- places that tie are of one network and one prefix
-pub one_place : (n m : List ℕ) (x y : Prefix) → is_eq (place_cmp (place_of n x) (place_of m y)) ≡ true → (n ≡ m) × (x ≡ y)
+pub one_place : (n m : List ℕ) (x y : Prefix) → is_eq (place_cmp (place_of n x) (place_of m y)) ≡ true
+    → (n ≡ m) × (x ≡ y)
 unfolding place_cmp
 one_place n m x y h =
     let parts : (is_eq (name_cmp n m) ≡ true) × (is_eq (prefix_cmp x y) ≡ true) =

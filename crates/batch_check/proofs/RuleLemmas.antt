@@ -9,7 +9,8 @@ use Rattle.batch_check.specs.Laws.{KeptRulesAreNotBroken, OneRuleIsBrokenFirst}
 use Rattle.batch_check.specs.Rules.{KeepsRules, KeepsNumbers}
 
 -- a batch that keeps the rules keeps the numbers
-pub numbers_kept : (rows : Rows) (writes : List Write) (past : Past) → KeepsRules rows writes past → KeepsNumbers rows writes past
+pub numbers_kept : (rows : Rows) (writes : List Write) (past : Past) → KeepsRules rows writes past
+    → KeepsNumbers rows writes past
 numbers_kept rows writes past keeps = record {
   within = keeps.within;
   few = keeps.few;

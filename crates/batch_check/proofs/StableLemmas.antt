@@ -1,7 +1,8 @@
 -- A batch of which no rule is known to be broken keeps them: each can be decided.
 use Rattle.std.proofs.Common.{◌≡◌, refl, ap, sym, ◌∙◌, arith, suc}
 use Rattle.std.proofs.lemmas.Bool.{both_ways, leb-false, leb-true}
-use Rattle.std.specs.Prelude.{ℕ, ◌+◌, ◌≤◌, ◌<◌, Bool, true, false, nat_le, Decides, List, length, All, Option, Some, None, IfSome, slice_index_or}
+use Rattle.std.specs.Prelude.{ℕ, ◌+◌, ◌≤◌, ◌<◌, Bool, true, false, nat_le, Decides, List, length, All, Option, Some}
+use Rattle.std.specs.Prelude.{None, IfSome, slice_index_or}
 use Rattle.alto_rows.specs.declared.span.Span.{Span}
 use Rattle.alto_rows.specs.declared.write.Write.{Write}
 use Rattle.alto_rows.specs.Good.{AreGood, needs}
@@ -51,7 +52,8 @@ one_pid : (rows : Rows) → ¬ ¬ HaveOnePid rows → HaveOnePid rows
 one_pid rows some net first second prefix f s =
     one_name first second
     (passes (same_name first second)
-    (λ none. some (λ one. none (ap (λ (pid : List ℕ). same_name first pid) (sym (one net first second prefix f s)) ∙ same_name_itself first))))
+    (λ none. some (λ one. none (ap (λ (pid : List ℕ). same_name first pid) (sym (one net first second prefix f s))
+    ∙ same_name_itself first))))
 
 -- that rows are within the numbers
 within : (rows : Rows) → ¬ ¬ AreWithin rows → AreWithin rows
@@ -68,7 +70,8 @@ within rows some = record {
     by of (Some most) e = no_more (count_in rows of) most (λ none. some (λ all. none (told of (Some most) e all)))
 
 -- that a batch keeps the numbers
-numbers : (rows : Rows) (writes : List Write) (past : Past) → ¬ ¬ KeepsNumbers rows writes past → KeepsNumbers rows writes past
+numbers : (rows : Rows) (writes : List Write) (past : Past) → ¬ ¬ KeepsNumbers rows writes past
+    → KeepsNumbers rows writes past
 numbers rows writes past some = record {
   within = within (after rows writes) (λ none. some (λ keeps. none keeps.within));
   few = no_more (length writes) 16384 (λ none. some (λ keeps. none keeps.few));
@@ -83,7 +86,8 @@ versions rows writes some =
     (ends_tell rows writes (sequence_writes rows (edits_in writes)) refl) some
 
 -- that good rows are good after it
-good : (rows : Rows) (writes : List Write) → AreGood rows → All FitsBatch writes → KeepsVersions rows writes → ¬ ¬ KeepsGood rows writes → KeepsGood rows writes
+good : (rows : Rows) (writes : List Write) → AreGood rows → All FitsBatch writes → KeepsVersions rows writes
+    → ¬ ¬ KeepsGood rows writes → KeepsGood rows writes
 good rows writes were fit keeps some =
     good_after rows writes were fit keeps (declared (after rows writes) (λ none. some (λ are. none are.declared)))
     (one_pid (after rows writes) (λ none. some (λ are. none are.one_pid)))
@@ -93,7 +97,8 @@ pub unbroken_rules_are_kept : UnbrokenRulesAreKept
 unbroken_rules_are_kept rows writes past were fit unbroken =
     let whole : KeepsVersions rows writes = versions rows writes (unbroken rule.B3) in
     let are : KeepsGood rows writes = good rows writes were fit whole (λ none. unbroken rule.B4 (whole, none)) in
-    let keeps : KeepsNumbers rows writes past = numbers rows writes past (λ none. unbroken rule.B5 (whole, are, none)) in
+    let keeps : KeepsNumbers rows writes past =
+    numbers rows writes past (λ none. unbroken rule.B5 (whole, are, none)) in
     record {
       whole = whole;
       good = are;

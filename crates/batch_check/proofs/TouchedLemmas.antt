@@ -5,7 +5,8 @@ use Rattle.std.proofs.lemmas.List.Folds.{list_any-append}
 use Rattle.std.proofs.lemmas.List.Kept.{IsStrictlySortedBy-filter}
 use Rattle.std.proofs.lemmas.Map.Lookups.{btree_set_from_contains}
 use Rattle.std.proofs.lemmas.Map.Views.{any-filter_same}
-use Rattle.std.specs.Prelude.{ℕ, Bool, true, false, not, cond, ◌||◌, ◌&&◌, List, [], ◌∷◌, ◌++◌, filter, Some, None, is_some}
+use Rattle.std.specs.Prelude.{ℕ, Bool, true, false, not, cond, ◌||◌, ◌&&◌, List, [], ◌∷◌, ◌++◌, filter, Some, None}
+use Rattle.std.specs.Prelude.{is_some}
 use Rattle.std.specs.BTreeMap.{is_at}
 use Rattle.std.specs.BTreeSet as set
 use Rattle.std.specs.BTreeSet.{BTreeSet, IsOrdered, contains}
@@ -26,7 +27,8 @@ use Rattle.alto_rows.specs.declared.span.Span.TheVariants as span
 use Rattle.alto_rows.specs.Touches.{is_resource, part_of, touches}
 use Rattle.alto_rows.specs.Versions.{cost_declared, is_declared, resources_of}
 use Rattle.alto_rows.proofs.OrderLemmas.{resource_cmp_exact, resource_cmp_total}
-use Rattle.alto_rows.proofs.ResourceLemmas.{costs_found, costs_kind, kind_apart, or_false, resources_found, resources_sorted}
+use Rattle.alto_rows.proofs.ResourceLemmas.{costs_found, costs_kind, kind_apart, or_false, resources_found}
+use Rattle.alto_rows.proofs.ResourceLemmas.{resources_sorted}
 use Rattle.alto_rows.proofs.TouchesLemmas.{none_part, same_name_ties, same_resource_ties}
 use Rattle.alto_rows.proofs.WithinLemmas.{value_of-rows_in}
 use Rattle.alto_rows.proofs.WriteLemmas.{sorted_after, value_of-after-none}
@@ -52,9 +54,11 @@ part_written [] of = refl
 part_written (write ∷ writes) of = by (part_written writes of) (is_version write.key) refl
   where
     by : is_part writes of ≡ is_written (edits_in writes) of → (b : Bool) → is_version write.key ≡ b
-        → (is_resource (part_of write.key) of || is_part writes of) ≡ is_written (cond (not b) (write ∷ edits_in writes) (edits_in writes)) of
+        → (is_resource (part_of write.key) of || is_part writes of)
+        ≡ is_written (cond (not b) (write ∷ edits_in writes) (edits_in writes)) of
     by more true e = rw (version_part write.key of e) more
-    by more false e = ap (λ b. b || is_part writes of) (edit_part write.key of e) ∙ ap (λ b. touches of write.key || b) more
+    by more false e = ap (λ b. b || is_part writes of) (edit_part write.key of e)
+        ∙ ap (λ b. touches of write.key || b) more
 
 -- ---- what depends on the resources of a batch
 
@@ -70,9 +74,11 @@ costs_among : (rows : Rows) (net metric other : List ℕ)
 costs_among rows net metric other =
     costs_found net metric (rows_in rows (span.Metrics other))
     ∙ ap is_some (value_of-rows_in rows (span.Metrics other) (key.Metric net metric))
-    ∙ rw (same_name_ties other net ∙ (eq_by_cmp_equiv nat_list_cmp_total).symm other net) (by (is_eq (name_cmp net other)))
+    ∙ rw (same_name_ties other net ∙ (eq_by_cmp_equiv nat_list_cmp_total).symm other net)
+    (by (is_eq (name_cmp net other)))
   where
-    by : (b : Bool) → is_some (cond b (value_of rows (key.Metric net metric)) None) ≡ (b && has_row rows (key.Metric net metric))
+    by : (b : Bool) → is_some (cond b (value_of rows (key.Metric net metric)) None)
+        ≡ (b && has_row rows (key.Metric net metric))
     by true = refl
     by false = refl
 
@@ -81,17 +87,23 @@ and_true true = refl
 and_true false = refl
 
 -- no network map or property map is a cost map
-no_map : (rows : Rows) (net other : List ℕ) → is_among (resource.Net net) (filter_map cost_declared (rows_in rows (span.Metrics other))) ≡ false
-no_map rows net other = kind_apart (resource.Net net) 2 (filter_map cost_declared (rows_in rows (span.Metrics other))) refl (costs_kind (rows_in rows (span.Metrics other)))
+no_map : (rows : Rows) (net other : List ℕ)
+    → is_among (resource.Net net) (filter_map cost_declared (rows_in rows (span.Metrics other))) ≡ false
+no_map rows net other = kind_apart (resource.Net net) 2 (filter_map cost_declared (rows_in rows (span.Metrics other)))
+    refl (costs_kind (rows_in rows (span.Metrics other)))
 
-no_prop : (rows : Rows) (net other : List ℕ) → is_among (resource.Prop net) (filter_map cost_declared (rows_in rows (span.Metrics other))) ≡ false
-no_prop rows net other = kind_apart (resource.Prop net) 2 (filter_map cost_declared (rows_in rows (span.Metrics other))) refl (costs_kind (rows_in rows (span.Metrics other)))
+no_prop : (rows : Rows) (net other : List ℕ)
+    → is_among (resource.Prop net) (filter_map cost_declared (rows_in rows (span.Metrics other))) ≡ false
+no_prop rows net other = kind_apart (resource.Prop net) 2 (filter_map cost_declared (rows_in rows (span.Metrics other)))
+    refl (costs_kind (rows_in rows (span.Metrics other)))
 
 -- among the dependents of a resource are that resource and, where it is a network map, what depends on it
 among_dependents : (rows : Rows) (of one : Resource)
-    → is_among one (dependents rows of) ≡ (is_eq (resource_cmp one of) || (is_eq (resource_cmp (resource.Net (net_of one)) of) && depends rows one))
+    → is_among one (dependents rows of)
+    ≡ (is_eq (resource_cmp one of) || (is_eq (resource_cmp (resource.Net (net_of one)) of) && depends rows one))
 unfolding resource_cmp
-among_dependents rows (resource.Net net) (resource.Net other) = rw (no_map rows other net, and_true (is_eq (name_cmp other net))) (twice (is_eq (name_cmp other net)))
+among_dependents rows (resource.Net net) (resource.Net other) =
+    rw (no_map rows other net, and_true (is_eq (name_cmp other net))) (twice (is_eq (name_cmp other net)))
   where
     twice : (b : Bool) → (b || false) ≡ (b || b)
     twice true = refl
@@ -104,12 +116,14 @@ among_dependents rows (resource.Prop net) one = refl
 
 -- of many resources
 among_all_dependents : (rows : Rows) (ofs : List Resource) (one : Resource)
-    → is_among one (flat_map (dependents rows) ofs) ≡ (is_among one ofs || (is_among (resource.Net (net_of one)) ofs && depends rows one))
+    → is_among one (flat_map (dependents rows) ofs)
+    ≡ (is_among one ofs || (is_among (resource.Net (net_of one)) ofs && depends rows one))
 among_all_dependents rows [] one = refl
 among_all_dependents rows (of ∷ ofs) one =
     list_any-append (is_at (resource_cmp one)) (dependents rows of) (flat_map (dependents rows) ofs)
     ∙ rw (among_dependents rows of one, among_all_dependents rows ofs one)
-    (mixed (is_eq (resource_cmp one of)) (is_eq (resource_cmp (resource.Net (net_of one)) of)) (is_among one ofs) (is_among (resource.Net (net_of one)) ofs) (depends rows one))
+    (mixed (is_eq (resource_cmp one of)) (is_eq (resource_cmp (resource.Net (net_of one)) of)) (is_among one ofs)
+    (is_among (resource.Net (net_of one)) ofs) (depends rows one))
   where
     mixed : (a b c d e : Bool) → ((a || (b && e)) || (c || (d && e))) ≡ ((a || c) || ((b || d) && e))
     mixed true b c d e = refl
@@ -127,14 +141,18 @@ among_all_dependents rows (of ∷ ofs) one =
 -- so of what is declared after the writes the dependents are exactly what these touch
 pub dependents_touched : (rows : Rows) (writes : List Write) (parts : BTreeSet Resource) → AreSorted rows
     → ((of : Resource) → contains resource_cmp parts of ≡ is_written writes of) → (one : Resource)
-    → (is_among one (flat_map (dependents rows) parts.keys) && is_declared (after rows writes) one) ≡ (is_touched writes one && is_declared (after rows writes) one)
+    → (is_among one (flat_map (dependents rows) parts.keys) && is_declared (after rows writes) one)
+    ≡ (is_touched writes one && is_declared (after rows writes) one)
 dependents_touched rows writes parts s same one =
     rw (among_all_dependents rows parts.keys one, same one, same (resource.Net (net_of one)))
-    (by (is_written writes one) refl (is_written writes (resource.Net (net_of one))) (is_declared (after rows writes) one) refl)
+    (by (is_written writes one) refl (is_written writes (resource.Net (net_of one)))
+    (is_declared (after rows writes) one) refl)
   where
-    here : (of : Resource) → is_written writes of ≡ false → is_declared (after rows writes) of ≡ true → depends rows of ≡ true
+    here : (of : Resource) → is_written writes of ≡ false → is_declared (after rows writes) of ≡ true
+        → depends rows of ≡ true
     here (resource.Cost net metric) out now =
-        ap is_some (sym (value_of-after-none rows writes (key.Metric net metric) s (none_part (resource.Cost net metric) (key.Metric net metric) writes refl out))) ∙ now
+        ap is_some (sym (value_of-after-none rows writes (key.Metric net metric)
+        s (none_part (resource.Cost net metric) (key.Metric net metric) writes refl out))) ∙ now
     here (resource.Net net) out now = refl
     here (resource.Prop net) out now = refl
 
@@ -150,10 +168,13 @@ dependents_touched rows writes parts s same one =
     by false e false d f = refl
 
 -- one dependent more, where it was among those that were left
-pub moved : (all all' : BTreeSet Resource) (more : Resource) (one : Resource) (left : Bool) → set.Updates resource_cmp all all' more true
-    → (contains resource_cmp all' one || left) ≡ (contains resource_cmp all one || (is_eq (resource_cmp one more) || left))
+pub moved : (all all' : BTreeSet Resource) (more : Resource) (one : Resource) (left : Bool)
+    → set.Updates resource_cmp all all' more true
+    → (contains resource_cmp all' one || left)
+    ≡ (contains resource_cmp all one || (is_eq (resource_cmp one more) || left))
 moved all all' more one left h =
-    rw (h.0 one, (eq_by_cmp_equiv resource_cmp_total).symm more one) (by (is_eq (resource_cmp one more)) (contains resource_cmp all one))
+    rw (h.0 one, (eq_by_cmp_equiv resource_cmp_total).symm more one)
+    (by (is_eq (resource_cmp one more)) (contains resource_cmp all one))
   where
     by : (b t : Bool) → (cond b true t || left) ≡ (t || (b || left))
     by true true = refl
@@ -161,29 +182,39 @@ moved all all' more one left h =
     by false t = refl
 
 -- the cost map of the first row that was left is there
-pub with_cost : (all all' : BTreeSet Resource) (left rest : Rows) (row : Key × Value) (cost : Resource) (whole : Resource → Bool)
+pub with_cost : (all all' : BTreeSet Resource) (left rest : Rows) (row : Key × Value) (cost : Resource)
+    (whole : Resource → Bool)
     → left ≡ row ∷ rest → Some cost ≡ cost_declared row → set.Updates resource_cmp all all' cost true
     → ((one : Resource) → (contains resource_cmp all one || is_among one (filter_map cost_declared left)) ≡ whole one)
     → (one : Resource) → (contains resource_cmp all' one || is_among one (filter_map cost_declared rest)) ≡ whole one
 with_cost all all' left rest row cost whole first is more before one =
-    let there : (contains resource_cmp all one || (is_eq (resource_cmp one cost) || is_among one (filter_map cost_declared rest))) ≡ whole one = rw (first, ← is) at before one in
+    let there : (contains resource_cmp all one
+    || (is_eq (resource_cmp one cost) || is_among one (filter_map cost_declared rest)))
+    ≡ whole one = rw (first, ← is) at before one in
     moved all all' cost one (is_among one (filter_map cost_declared rest)) more ∙ there
 
 -- a network's map, its property map and its cost maps join one after another
 pub map_joined : (rows : Rows) (net : List ℕ) (first second third fourth : BTreeSet Resource)
-    → set.Updates resource_cmp first second (resource.Net net) true → set.Updates resource_cmp second third (resource.Prop net) true
-    → HasJoined third (filter_map cost_declared (rows_in rows (span.Metrics net))) fourth → HasJoined first (dependents rows (resource.Net net)) fourth
+    → set.Updates resource_cmp first second (resource.Net net) true
+    → set.Updates resource_cmp second third (resource.Prop net) true
+    → HasJoined third (filter_map cost_declared (rows_in rows (span.Metrics net))) fourth
+    → HasJoined first (dependents rows (resource.Net net)) fourth
 map_joined rows net first second third fourth a b c one =
-    c one ∙ (moved second third (resource.Prop net) one (is_among one (filter_map cost_declared (rows_in rows (span.Metrics net)))) b
-    ∙ moved first second (resource.Net net) one (is_eq (resource_cmp one (resource.Prop net)) || is_among one (filter_map cost_declared (rows_in rows (span.Metrics net)))) a)
+    c one ∙ (moved second third (resource.Prop net)
+    one (is_among one (filter_map cost_declared (rows_in rows (span.Metrics net)))) b
+    ∙ moved first second (resource.Net net) one (is_eq (resource_cmp one (resource.Prop net))
+    || is_among one (filter_map cost_declared (rows_in rows (span.Metrics net)))) a)
 
 -- once all resources have been gone over, what joined is what depends on them
-pub all_joined : (rows : Rows) (parts start left : List Resource) (first last : BTreeSet Resource) → first.keys ≡ [] → start ≡ parts → left ≡ []
-    → ((one : Resource) → (contains resource_cmp last one || is_among one (flat_map (dependents rows) left)) ≡ (contains resource_cmp first one || is_among one (flat_map (dependents rows) start)))
+pub all_joined : (rows : Rows) (parts start left : List Resource) (first last : BTreeSet Resource) → first.keys ≡ []
+    → start ≡ parts → left ≡ []
+    → ((one : Resource) → (contains resource_cmp last one || is_among one (flat_map (dependents rows) left))
+    ≡ (contains resource_cmp first one || is_among one (flat_map (dependents rows) start)))
     → (one : Resource) → contains resource_cmp last one ≡ is_among one (flat_map (dependents rows) parts)
 all_joined rows parts start left first last none all end over one =
     sym (or_false (contains resource_cmp last one))
-    ∙ (ap (λ (ofs : List Resource). contains resource_cmp last one || is_among one (flat_map (dependents rows) ofs)) (sym end)
+    ∙ (ap (λ (ofs : List Resource). contains resource_cmp last one || is_among one (flat_map (dependents rows) ofs))
+    (sym end)
     ∙ (over one
     ∙ (ap (λ (ofs : List Resource). is_among one ofs || is_among one (flat_map (dependents rows) start)) none
     ∙ ap (λ (ofs : List Resource). is_among one (flat_map (dependents rows) ofs)) all)))
@@ -191,7 +222,8 @@ all_joined rows parts start left first last none all end over one =
 -- so of the resources that the writes of a batch are part of it is what its edits touch
 pub has_touched : (rows : Rows) (writes : List Write) (parts last : BTreeSet Resource) → AreSorted rows
     → ((of : Resource) → contains resource_cmp parts of ≡ is_part writes of)
-    → ((one : Resource) → contains resource_cmp last one ≡ is_among one (flat_map (dependents rows) parts.keys)) → HasTouched rows (edits_in writes) last
+    → ((one : Resource) → contains resource_cmp last one ≡ is_among one (flat_map (dependents rows) parts.keys))
+    → HasTouched rows (edits_in writes) last
 has_touched rows writes parts last s same all one =
     ap (λ b. b && is_declared (after rows (edits_in writes)) one) (all one)
     ∙ dependents_touched rows (edits_in writes) parts s (λ of. same of ∙ part_written writes of) one
@@ -207,7 +239,8 @@ swapped false false = refl
 -- the resources of an ordered set that pass a test tell one by one whether they are there
 filtered : (test : Resource → Bool) (ofs : List Resource) (of : Resource)
     → list_any (is_at (resource_cmp of)) (filter test ofs) ≡ (test of && list_any (is_at (resource_cmp of)) ofs)
-filtered test ofs of = any-filter_same (is_at (resource_cmp of)) test (test of) (λ other. tied other (resource_cmp of other) refl) ofs
+filtered test ofs of = any-filter_same (is_at (resource_cmp of)) test (test of)
+    (λ other. tied other (resource_cmp of other) refl) ofs
   where
     tied : (other : Resource) → (o : Ordering) → resource_cmp of other ≡ o → is_eq o ≡ true → test other ≡ test of
     tied other Equal e h = ap test (sym (resource_cmp_exact of other e))
@@ -217,17 +250,21 @@ filtered test ofs of = any-filter_same (is_at (resource_cmp of)) test (test of) 
 -- of an ordered set that has what the writes touch, the declared ones are those of the version rows, in their order
 pub touched_in_order : (rows : Rows) (writes : List Write) (touched : BTreeSet Resource)
     → AreSorted rows → IsOrdered resource_cmp touched → HasTouched rows writes touched
-    → filter (is_declared (after rows writes)) touched.keys ≡ filter (is_touched writes) (resources_of (after rows writes))
+    → filter (is_declared (after rows writes)) touched.keys
+    ≡ filter (is_touched writes) (resources_of (after rows writes))
 touched_in_order rows writes touched s ordered same =
     btree_set_from_contains resource_cmp_total
-    (record { keys = filter (is_declared (after rows writes)) touched.keys }) (record { keys = filter (is_touched writes) (resources_of (after rows writes)) })
+    (record { keys = filter (is_declared (after rows writes)) touched.keys })
+    (record { keys = filter (is_touched writes) (resources_of (after rows writes)) })
     (IsStrictlySortedBy-filter resource_cmp (is_declared (after rows writes)) touched.keys ordered)
-    (IsStrictlySortedBy-filter resource_cmp (is_touched writes) (resources_of (after rows writes)) (resources_sorted (after rows writes) (sorted_after rows writes s)))
+    (IsStrictlySortedBy-filter resource_cmp (is_touched writes) (resources_of (after rows writes))
+    (resources_sorted (after rows writes) (sorted_after rows writes s)))
     (λ of.
     filtered (is_declared (after rows writes)) touched.keys of
     ∙ (swapped (is_declared (after rows writes) of) (contains resource_cmp touched of)
     ∙ (same of
-    ∙ sym (filtered (is_touched writes) (resources_of (after rows writes)) of ∙ ap (λ b. is_touched writes of && b) (resources_found (after rows writes) of)))))
+    ∙ sym (filtered (is_touched writes) (resources_of (after rows writes)) of
+    ∙ ap (λ b. is_touched writes of && b) (resources_found (after rows writes) of)))))
     resource_cmp_exact
 
 -- ---- the resources that writes are part of
@@ -242,12 +279,15 @@ added false false = refl
 -- the set has the resource that a key is part of
 pub part_added : (t t' : BTreeSet Resource) (part of : Resource) → set.Updates resource_cmp t t' part true
     → contains resource_cmp t' of ≡ (contains resource_cmp t of || is_resource (Some part) of)
-part_added t t' part of more = more.0 of ∙ rw ((eq_by_cmp_equiv resource_cmp_total).symm part of, ← same_resource_ties of part) (added (is_resource (Some part) of) (contains resource_cmp t of))
+part_added t t' part of more =
+    more.0 of ∙ rw ((eq_by_cmp_equiv resource_cmp_total).symm part of, ← same_resource_ties of part)
+    (added (is_resource (Some part) of) (contains resource_cmp t of))
 
 -- so does one of which the writes up to the next are part
 pub parts_more : (t t' : BTreeSet Resource) (writes : List Write) (write : Write)
     → ((of : Resource) → contains resource_cmp t of ≡ is_part writes of)
-    → ((of : Resource) → contains resource_cmp t' of ≡ (contains resource_cmp t of || is_resource (part_of write.key) of))
+    → ((of : Resource) → contains resource_cmp t' of
+    ≡ (contains resource_cmp t of || is_resource (part_of write.key) of))
     → (of : Resource) → contains resource_cmp t' of ≡ is_part (writes ++ write ∷ []) of
 parts_more t t' writes write same more of =
     more of

@@ -1,5 +1,6 @@
 -- The grammar of keys.
-use Rattle.std.proofs.Common.{◌≡◌, ℕ, suc, ◌≤◌, inl, inr, Bool, List, [], ◌∷◌, ◌++◌, length, Some, Ok, refl, sym, ap, subst, ◌∙◌, arith}
+use Rattle.std.proofs.Common.{◌≡◌, ℕ, suc, ◌≤◌, inl, inr, Bool, List, [], ◌∷◌, ◌++◌, length, Some, Ok, refl, sym, ap}
+use Rattle.std.proofs.Common.{subst, ◌∙◌, arith}
 use Rattle.alto_addr.specs.declared.addr.Addr.{Addr}
 use Rattle.alto_addr.specs.declared.addr.Addr.TheVariants.{V4, V6}
 use Rattle.alto_addr.specs.Order.{family_of}
@@ -14,8 +15,10 @@ use Rattle.code_bytes.specs.Stuck.{left_at, IsStuck, Stops, Headed, Pair}
 use Rattle.code_bytes.specs.Pieces.{Names, Prefixes, name}
 use Rattle.code_bytes.proofs.OnceLemmas.{head_is}
 use Rattle.code_bytes.proofs.StuckLemmas.{IsFree, headed_free, headed_on_stops, other_head, stuck_within, stops_same}
-use Rattle.code_bytes.proofs.GrammarLemmas.{IsGrammar, names_grammar, pair_grammar, prefixes_grammar, tagged_bad, tagged_free, tagged_none, tagged_on}
-use Rattle.batch_code.specs.Grammar.{NetNames, PidNames, MetricNames, PropNames, AneNames, PidEntity, Entities, resource_number, ResourceNames, Resources, Fields}
+use Rattle.code_bytes.proofs.GrammarLemmas.{IsGrammar, names_grammar, pair_grammar, prefixes_grammar, tagged_bad}
+use Rattle.code_bytes.proofs.GrammarLemmas.{tagged_free, tagged_none, tagged_on}
+use Rattle.batch_code.specs.Grammar.{NetNames, PidNames, MetricNames, PropNames, AneNames, PidEntity, Entities}
+use Rattle.batch_code.specs.Grammar.{resource_number, ResourceNames, Resources, Fields}
 use Rattle.batch_code.specs.declared.kinds.KeyKind.{KeyKind}
 use Rattle.batch_code.specs.declared.kinds.KeyKind.TheVariants as kind
 use Rattle.batch_code.specs.declared.kinds.ResourceKind.{ResourceKind}
@@ -38,7 +41,8 @@ ane_grammar = names_grammar is_pid_byte 32 45 refl (omega arith)
 pub import_grammar : IsGrammar (Names is_import_byte 64)
 import_grammar = names_grammar is_import_byte 64 33 refl (omega arith)
 
-pub is_text : (alphabet : ℕ → Bool) (longest : ℕ) (value : List ℕ) → named alphabet longest value ≡ Ok value → Names alphabet longest (name value)
+pub is_text : (alphabet : ℕ → Bool) (longest : ℕ) (value : List ℕ) → named alphabet longest value ≡ Ok value
+    → Names alphabet longest (name value)
 is_text alphabet longest value e = record { value = value; is_name = e; spelled = refl }
 
 pub are_texts : (First Second : List ℕ → Type 0) (a b : List ℕ) → First a → Second b → Pair First Second (a ++ b)
@@ -55,7 +59,8 @@ no_block (V6 n) e = absurd cc
 
 apart : (a b r s : List ℕ) → Prefixes a → Headed PidEntity b → a ++ r ≡ b ++ s → ⊥
 apart a b r s one other e =
-    no_block one.value.addr (sym other.second.0 ∙ sym (head_is _ _ _ _ (ap (λ t. t ++ r) (sym one.spelled) ∙ e ∙ ap (λ t. t ++ s) other.split)))
+    no_block one.value.addr (sym other.second.0
+    ∙ sym (head_is _ _ _ _ (ap (λ t. t ++ r) (sym one.spelled) ∙ e ∙ ap (λ t. t ++ s) other.split)))
 
 entities_free : IsFree Entities
 entities_free a b r s (inl one) (inl other) e = prefixes_grammar.free a b r s one other e
@@ -66,40 +71,50 @@ entities_free a b r s (inr one) (inr other) e = pid_headed_free a b r s one othe
 pub entities_grammar : IsGrammar Entities
 entities_grammar = record { free = entities_free; text = prefixes_grammar.text; some = inl prefixes_grammar.some }
 
-least_block : (bytes : List ℕ) (left : ℕ) → ((rest : List ℕ) → bytes ≡ 0x50 ∷ rest → ⊥) → IsStuck Prefixes bytes left → (other : List ℕ) → Entities other
+least_block : (bytes : List ℕ) (left : ℕ) → ((rest : List ℕ) → bytes ≡ 0x50 ∷ rest → ⊥) → IsStuck Prefixes bytes left
+    → (other : List ℕ) → Entities other
     → (more : ℕ) × (left_at other bytes ≡ Some more) × (left ≤ more)
 least_block bytes left not s other (inl is) = s.least other is
 least_block [] left not s other (inr is) = (0, ap (λ t. left_at t []) is.split, stuck_within Prefixes [] left s)
 least_block (b ∷ rest) left not s other (inr is) = (
   suc (length rest),
-  ap (λ t. left_at t (b ∷ rest)) is.split ∙ other_head is.byte b is.back rest (λ same. not rest (ap (λ x. x ∷ rest) (sym same ∙ is.second.0))),
+  ap (λ t. left_at t (b ∷ rest)) is.split
+      ∙ other_head is.byte b is.back rest (λ same. not rest (ap (λ x. x ∷ rest) (sym same ∙ is.second.0))),
   stuck_within Prefixes (b ∷ rest) left s,
 )
 
-pub block_stops : (bytes : List ℕ) (why : Stop) → ((rest : List ℕ) → bytes ≡ 0x50 ∷ rest → ⊥) → Stops Prefixes bytes why → Stops Entities bytes why
-block_stops bytes (stop.Left left) not s = record { text = s.text; is_text = inl s.is_text; parts = s.parts; least = least_block bytes left not s }
+pub block_stops : (bytes : List ℕ) (why : Stop) → ((rest : List ℕ) → bytes ≡ 0x50 ∷ rest → ⊥) → Stops Prefixes bytes why
+    → Stops Entities bytes why
+block_stops bytes (stop.Left left) not s =
+    record { text = s.text; is_text = inl s.is_text; parts = s.parts; least = least_block bytes left not s }
 block_stops bytes stop.Memory not s = tt
 
 to_pid : (rest text : List ℕ) → PidNames text → PidEntity 0x50 text
 to_pid rest text is = (refl, is)
 
-least_pid : (rest : List ℕ) (left : ℕ) → IsStuck (Headed PidEntity) (0x50 ∷ rest) left → (other : List ℕ) → Entities other
+least_pid : (rest : List ℕ) (left : ℕ) → IsStuck (Headed PidEntity) (0x50 ∷ rest) left → (other : List ℕ)
+    → Entities other
     → (more : ℕ) × (left_at other (0x50 ∷ rest) ≡ Some more) × (left ≤ more)
 least_pid rest left s other (inr is) = s.least other is
 least_pid rest left s other (inl is) = (
   suc (length rest),
-  ap (λ t. left_at t (0x50 ∷ rest)) is.spelled ∙ other_head (family_of is.value.addr) 0x50 _ rest (λ same. no_block is.value.addr (sym same)),
+  ap (λ t. left_at t (0x50 ∷ rest)) is.spelled
+      ∙ other_head (family_of is.value.addr) 0x50 _ rest (λ same. no_block is.value.addr (sym same)),
   stuck_within (Headed PidEntity) (0x50 ∷ rest) left s,
 )
 
-pid_headed : (rest : List ℕ) (why : Stop) → Stops (Headed PidEntity) (0x50 ∷ rest) why → Stops Entities (0x50 ∷ rest) why
-pid_headed rest (stop.Left left) s = record { text = s.text; is_text = inr s.is_text; parts = s.parts; least = least_pid rest left s }
+pid_headed : (rest : List ℕ) (why : Stop) → Stops (Headed PidEntity) (0x50 ∷ rest) why
+    → Stops Entities (0x50 ∷ rest) why
+pid_headed rest (stop.Left left) s =
+    record { text = s.text; is_text = inr s.is_text; parts = s.parts; least = least_pid rest left s }
 pid_headed rest stop.Memory s = tt
 
-pub pid_stops : (bytes rest : List ℕ) (why : Stop) → bytes ≡ 0x50 ∷ rest → Stops PidNames rest why → Stops Entities bytes why
+pub pid_stops : (bytes rest : List ℕ) (why : Stop) → bytes ≡ 0x50 ∷ rest → Stops PidNames rest why
+    → Stops Entities bytes why
 pid_stops bytes rest why head s =
     subst (λ b. Stops Entities b why) (sym head)
-    (pid_headed rest why (headed_on_stops PidEntity 0x50 rest why (stops_same PidNames (PidEntity 0x50) rest why (to_pid rest) (λ text is. is.1) s)))
+    (pid_headed rest why (headed_on_stops PidEntity 0x50 rest
+    why (stops_same PidNames (PidEntity 0x50) rest why (to_pid rest) (λ text is. is.1) s)))
 
 -- ---- resources
 
@@ -127,32 +142,42 @@ resources_grammar = record {
 pub resource_none : (bytes : List ℕ) → bytes ≡ [] → IsStuck Resources bytes 0
 resource_none bytes nil = tagged_none resource_number ResourceNames bytes _ some_resource nil
 
-pub resource_bad : (byte : ℕ) (bytes rest : List ℕ) → bytes ≡ byte ∷ rest → ((at : ResourceKind) → byte ≡ resource_number at → ⊥) → IsStuck Resources bytes (length bytes)
-resource_bad byte bytes rest head not = tagged_bad resource_number ResourceNames byte bytes rest _ some_resource head (λ tag back e is. not tag e)
+pub resource_bad : (byte : ℕ) (bytes rest : List ℕ) → bytes ≡ byte ∷ rest
+    → ((at : ResourceKind) → byte ≡ resource_number at → ⊥) → IsStuck Resources bytes (length bytes)
+resource_bad byte bytes rest head not = tagged_bad resource_number ResourceNames byte bytes rest _ some_resource
+    head (λ tag back e is. not tag e)
 
-pub resource_on : (at : ResourceKind) (byte : ℕ) (bytes rest : List ℕ) (why : Stop) → bytes ≡ byte ∷ rest → byte ≡ resource_number at → Stops (ResourceNames at) rest why
+pub resource_on : (at : ResourceKind) (byte : ℕ) (bytes rest : List ℕ) (why : Stop) → bytes ≡ byte ∷ rest
+    → byte ≡ resource_number at → Stops (ResourceNames at) rest why
     → Stops Resources bytes why
-resource_on at byte bytes rest why head e s = tagged_on resource_number ResourceNames at byte bytes rest why resource_once head e s
+resource_on at byte bytes rest why head e s =
+    tagged_on resource_number ResourceNames at byte bytes rest why resource_once head e s
 
 -- ---- fields
 
 pub fields_grammar : (at : KeyKind) → IsGrammar (Fields at)
 fields_grammar kind.Net = net_grammar
 fields_grammar kind.Pid = pair_grammar NetNames PidNames net_grammar pid_grammar
-fields_grammar kind.Prefix = pair_grammar (Pair NetNames PidNames) Prefixes (pair_grammar NetNames PidNames net_grammar pid_grammar) prefixes_grammar
+fields_grammar kind.Prefix = pair_grammar (Pair NetNames PidNames)
+    Prefixes (pair_grammar NetNames PidNames net_grammar pid_grammar) prefixes_grammar
 fields_grammar kind.Metric = pair_grammar NetNames MetricNames net_grammar metric_grammar
 fields_grammar kind.Cost =
-    pair_grammar (Pair NetNames MetricNames) (Pair PidNames PidNames) (pair_grammar NetNames MetricNames net_grammar metric_grammar)
+    pair_grammar (Pair NetNames MetricNames) (Pair PidNames PidNames)
+    (pair_grammar NetNames MetricNames net_grammar metric_grammar)
     (pair_grammar PidNames PidNames pid_grammar pid_grammar)
 fields_grammar kind.Prop =
-    pair_grammar NetNames (Pair Entities PropNames) net_grammar (pair_grammar Entities PropNames entities_grammar metric_grammar)
+    pair_grammar NetNames (Pair Entities PropNames)
+    net_grammar (pair_grammar Entities PropNames entities_grammar metric_grammar)
 fields_grammar kind.Ane = pair_grammar NetNames AneNames net_grammar ane_grammar
 fields_grammar kind.AneProp =
-    pair_grammar (Pair NetNames AneNames) PropNames (pair_grammar NetNames AneNames net_grammar ane_grammar) metric_grammar
-fields_grammar kind.Path = pair_grammar NetNames (Pair PidNames PidNames) net_grammar (pair_grammar PidNames PidNames pid_grammar pid_grammar)
+    pair_grammar (Pair NetNames AneNames) PropNames (pair_grammar NetNames AneNames net_grammar ane_grammar)
+    metric_grammar
+fields_grammar kind.Path = pair_grammar NetNames (Pair PidNames PidNames)
+    net_grammar (pair_grammar PidNames PidNames pid_grammar pid_grammar)
 fields_grammar kind.Seq = resources_grammar
 
 -- what a known entity writes
 pub is_entity : (value : Entity) → IsEntity value → Entities (entity_bytes value)
 is_entity (entity.Block block) bits = inl (record { value = block; has_bits = bits; spelled = refl })
-is_entity (entity.Pid pid) is = inr (record { byte = 0x50; back = name pid; split = refl; second = (refl, is_text is_pid_byte 64 pid is) })
+is_entity (entity.Pid pid) is =
+    inr (record { byte = 0x50; back = name pid; split = refl; second = (refl, is_text is_pid_byte 64 pid is) })

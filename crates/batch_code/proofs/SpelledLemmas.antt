@@ -1,5 +1,6 @@
 -- The grammar has no text but spellings.
-use Rattle.std.proofs.Common.{◌≡◌, ℕ, Bool, List, [], ◌∷◌, ◌++◌, length, Option, Some, None, Ok, inl, inr, refl, sym, ap, ◌∙◌, append-nil, arith}
+use Rattle.std.proofs.Common.{◌≡◌, ℕ, Bool, List, [], ◌∷◌, ◌++◌, length, Option, Some, None, Ok, inl, inr, refl, sym}
+use Rattle.std.proofs.Common.{ap, ◌∙◌, append-nil, arith}
 use Rattle.std.specs.List.{flat_map}
 use Rattle.std.proofs.lemmas.List.Elements.{All-from_recursion}
 use Rattle.alto_names.specs.Name.{named, is_net_byte, is_pid_byte, is_metric_byte, IsAneName}
@@ -18,7 +19,8 @@ use Rattle.code_bytes.specs.Stuck.{Pair}
 use Rattle.code_bytes.specs.Pieces.{Names, name, number}
 use Rattle.code_bytes.proofs.GrammarLemmas.{times_to}
 use Rattle.batch_code.specs.Faults.{IsBatch, IsRowZero}
-use Rattle.batch_code.specs.Grammar.{AneNames, BatchTexts, Entities, Fields, HeadTexts, ResourceNames, Values, Writes, form_number, key_number, resource_number, shape_of}
+use Rattle.batch_code.specs.Grammar.{AneNames, BatchTexts, Entities, Fields, HeadTexts, ResourceNames, Values, Writes}
+use Rattle.batch_code.specs.Grammar.{form_number, key_number, resource_number, shape_of}
 use Rattle.batch_code.specs.Spelling.{entity_bytes, fields, resource_bytes, value_bytes, write_bytes}
 use Rattle.batch_code.specs.Storable.{IsKeyAt, IsStored}
 use Rattle.batch_code.specs.Values.{IsValueOf}
@@ -146,9 +148,11 @@ value_by s form.Text text back e is =
     )
 value_by s form.Names text back e is =
     let b = is.body in
-    let many = times_to IsAneName name AneNames b.second.value b.back (λ one its. (its.value, its.is_name, its.spelled)) b.second.body in (
+    let many = times_to IsAneName name AneNames b.second.value b.back (λ one its. (its.value, its.is_name, its.spelled))
+    b.second.body in (
       Some (value.Names many.values),
-      names_fit s many.values is.fits (All-from_recursion IsAneName many.values many.all) (omega (arith, many.many, b.second.above))
+      names_fit s many.values is.fits (All-from_recursion IsAneName many.values many.all)
+          (omega (arith, many.many, b.second.above))
           (omega (arith, many.many, b.second.below)),
       e ∙ ap (λ t. 4 ∷ t) (b.split ∙ ap (λ t. t ++ b.back) (b.second.spelled ∙ ap (number 2) (sym many.many))
           ∙ ap (λ t. number 2 (length many.values) ++ t) many.spelled),
@@ -164,8 +168,12 @@ write_in text is =
     let v = value_by (shape_of is.tag) last.tag behind.back last.back last.split last.second in
     let at : IsKeyAt (key_number is.tag) is.back of.of behind.back =
     record { kind = of.kind; is_key = of.is_key; read = behind.split ∙ ap (λ t. t ++ behind.back) of.spelled } in
-    let read = behind_read is.tag of.of v.0 is.back behind.back [] at v.1 (v.2 ∙ sym (append-nil (value_bytes v.0))) in
-    (record { key = of.of; value = v.0 }, read.0, is.split ∙ read.1 ∙ append-nil (write_bytes (record { key = of.of; value = v.0 })))
+    let read = behind_read is.tag of.of v.0 is.back behind.back [] at v.1 (v.2 ∙ sym (append-nil (value_bytes v.0))) in (
+      record { key = of.of; value = v.0 },
+      read.0,
+      is.split ∙ read.1
+          ∙ append-nil (write_bytes (record { key = of.of; value = v.0 })),
+    )
 
 -- ---- batches
 
@@ -180,7 +188,8 @@ batch_in text is =
     let id = two.first.value in
     let moment = last.first.value in
     let list_is : last.back ≡ number 4 (length many.values) ++ flat_map write_bytes many.values =
-    list.split ∙ ap (λ t. t ++ list.back) (list.second.spelled ∙ ap (number 4) (sym many.many)) ∙ ap (λ t. number 4 (length many.values) ++ t) many.spelled in
+    list.split ∙ ap (λ t. t ++ list.back) (list.second.spelled ∙ ap (number 4) (sym many.many))
+    ∙ ap (λ t. number 4 (length many.values) ++ t) many.spelled in
     let last_is : after.back ≡ number 8 moment ++ (number 4 (length many.values) ++ flat_map write_bytes many.values) =
     last.split ∙ ap (λ t. t ++ last.back) last.first.spelled ∙ ap (λ t. number 8 moment ++ t) list_is in
     let after_is = after.split ∙ ap (λ t. after.front ++ t) last_is in

@@ -1,5 +1,6 @@
 -- The grammar of writes.
-use Rattle.std.proofs.Common.{◌≡◌, ℕ, ◌≤◌, true, List, [], ◌∷◌, ◌++◌, length, All, Option, Some, None, refl, sym, ap, subst, ◌∙◌, append_assoc, arith}
+use Rattle.std.proofs.Common.{◌≡◌, ℕ, ◌≤◌, true, List, [], ◌∷◌, ◌++◌, length, All, Option, Some, None, refl, sym, ap}
+use Rattle.std.proofs.Common.{subst, ◌∙◌, append_assoc, arith}
 use Rattle.std.specs.Prelude.{IsUtf8}
 use Rattle.std.specs.List.{flat_map}
 use Rattle.std.proofs.lemmas.List.Elements.{recursion_from_All}
@@ -16,8 +17,12 @@ use Rattle.alto_rows.specs.declared.write.Write.{Write}
 use Rattle.code_bytes.specs.declared.stop.Stop.{Stop}
 use Rattle.code_bytes.specs.Stuck.{IsStuck, Stops, Pair, Tagged, Times}
 use Rattle.code_bytes.specs.Pieces.{Numbers, Prefixes, name, number, prefix}
-use Rattle.code_bytes.proofs.GrammarLemmas.{IsGrammar, counted_first, counted_grammar, counted_next, pair_first, pair_grammar, pair_next, tagged_bad, tagged_free, tagged_none, tagged_on, times_from, times_grammar}
-use Rattle.batch_code.specs.Grammar.{NetNames, PidNames, MetricNames, PropNames, AneNames, Behind, Entities, Fields, Resources, Values, WriteLists, Writes, form_number, has_form, key_number, least_of, most_of, shape_of}
+use Rattle.code_bytes.proofs.GrammarLemmas.{IsGrammar, counted_first, counted_grammar, counted_next, pair_first}
+use Rattle.code_bytes.proofs.GrammarLemmas.{pair_grammar, pair_next, tagged_bad, tagged_free, tagged_none, tagged_on}
+use Rattle.code_bytes.proofs.GrammarLemmas.{times_from, times_grammar}
+use Rattle.batch_code.specs.Grammar.{NetNames, PidNames, MetricNames, PropNames, AneNames, Behind, Entities, Fields}
+use Rattle.batch_code.specs.Grammar.{Resources, Values, WriteLists, Writes, form_number, has_form, key_number, least_of}
+use Rattle.batch_code.specs.Grammar.{most_of, shape_of}
 use Rattle.batch_code.specs.Spelling.{entity_bytes, fields, resource_bytes, value_bytes, write_bytes}
 use Rattle.batch_code.specs.Storable.{IsKeyAt, IsStored, TakesChange}
 use Rattle.batch_code.specs.Values.{IsValueOf, shape_at}
@@ -134,7 +139,8 @@ ValueTexts at text = Tagged form_number (Values (shape_of at)) text
 behind_grammar : (at : KeyKind) → IsGrammar (Behind at)
 behind_grammar at = pair_grammar (Fields at) (ValueTexts at) (fields_grammar at) (values_grammar (shape_of at))
 
-pub behind_first : (at : KeyKind) (bytes : List ℕ) (why : Stop) → Stops (Fields at) bytes why → Stops (Behind at) bytes why
+pub behind_first : (at : KeyKind) (bytes : List ℕ) (why : Stop) → Stops (Fields at) bytes why
+    → Stops (Behind at) bytes why
 behind_first at bytes why s = pair_first (Fields at) (ValueTexts at) bytes why (values_grammar (shape_of at)) s
 
 net : (text : List ℕ) → IsKey (key.Net text) → NetNames (name text)
@@ -152,21 +158,27 @@ resource_text (resource.Prop n) is = record { tag = of_kind.Prop; back = name n;
 
 pub fields_text : (at : KeyKind) (of : Key) → kind_of of ≡ key_number at → IsKey of → Fields at (fields of)
 fields_text kind.Net (key.Net n) e is = net n is
-fields_text kind.Pid (key.Pid n p) e is = are_texts NetNames PidNames (name n) (name p) (net n is.0) (is_text is_pid_byte 64 p is.1)
+fields_text kind.Pid (key.Pid n p) e is =
+    are_texts NetNames PidNames (name n) (name p) (net n is.0) (is_text is_pid_byte 64 p is.1)
 fields_text kind.Prefix (key.Prefix n p block) e is =
-    are_texts (Pair NetNames PidNames) Prefixes (name n ++ name p) (prefix block) (are_texts NetNames PidNames (name n) (name p) (net n is.0) (is_text is_pid_byte 64 p is.1))
+    are_texts (Pair NetNames PidNames) Prefixes (name n ++ name p) (prefix block)
+    (are_texts NetNames PidNames (name n) (name p) (net n is.0) (is_text is_pid_byte 64 p is.1))
     (record { value = block; has_bits = is.2; spelled = refl })
-fields_text kind.Metric (key.Metric n m) e is = are_texts NetNames MetricNames (name n) (name m) (net n is.0) (is_text is_metric_byte 32 m is.1)
+fields_text kind.Metric (key.Metric n m) e is =
+    are_texts NetNames MetricNames (name n) (name m) (net n is.0) (is_text is_metric_byte 32 m is.1)
 fields_text kind.Cost (key.Cost n m s d) e is =
     are_texts (Pair NetNames MetricNames) (Pair PidNames PidNames) (name n ++ name m) (name s ++ name d)
     (are_texts NetNames MetricNames (name n) (name m) (net n is.0) (is_text is_metric_byte 32 m is.1))
     (are_texts PidNames PidNames (name s) (name d) (is_text is_pid_byte 64 s is.2) (is_text is_pid_byte 64 d is.3))
 fields_text kind.Prop (key.Prop n entity p) e is =
     are_texts NetNames (Pair Entities PropNames) (name n) (entity_bytes entity ++ name p) (net n is.0)
-    (are_texts Entities PropNames (entity_bytes entity) (name p) (is_entity entity is.1) (is_text is_metric_byte 32 p is.2))
-fields_text kind.Ane (key.Ane n a) e is = are_texts NetNames AneNames (name n) (name a) (net n is.0) (is_text is_pid_byte 32 a is.1)
+    (are_texts Entities PropNames (entity_bytes entity) (name p) (is_entity entity is.1)
+    (is_text is_metric_byte 32 p is.2))
+fields_text kind.Ane (key.Ane n a) e is =
+    are_texts NetNames AneNames (name n) (name a) (net n is.0) (is_text is_pid_byte 32 a is.1)
 fields_text kind.AneProp (key.AneProp n a p) e is =
-    are_texts (Pair NetNames AneNames) PropNames (name n ++ name a) (name p) (are_texts NetNames AneNames (name n) (name a) (net n is.0) (is_text is_pid_byte 32 a is.1))
+    are_texts (Pair NetNames AneNames) PropNames (name n ++ name a) (name p)
+    (are_texts NetNames AneNames (name n) (name a) (net n is.0) (is_text is_pid_byte 32 a is.1))
     (is_text is_metric_byte 32 p is.2)
 fields_text kind.Path (key.Path n s d) e is =
     are_texts NetNames (Pair PidNames PidNames) (name n) (name s ++ name d) (net n is.0)
@@ -174,12 +186,17 @@ fields_text kind.Path (key.Path n s d) e is =
 fields_text kind.Seq (key.Seq of) e is = resource_text of is
 fields_text _ _ e is = absurd cc
 
-pub behind_next : (at : KeyKind) (of : Key) (bytes rest : List ℕ) (why : Stop) → IsKeyAt (key_number at) bytes of rest → Stops (ValueTexts at) rest why → Stops (Behind at) bytes why
+pub behind_next : (at : KeyKind) (of : Key) (bytes rest : List ℕ) (why : Stop) → IsKeyAt (key_number at) bytes of rest
+    → Stops (ValueTexts at) rest why → Stops (Behind at) bytes why
 behind_next at of bytes rest why is s =
-    pair_next (Fields at) (ValueTexts at) bytes (fields of) rest why (fields_grammar at) (fields_text at of is.kind is.is_key) is.read s
+    pair_next (Fields at) (ValueTexts at) bytes (fields of) rest why (fields_grammar at)
+    (fields_text at of is.kind is.is_key) is.read s
 
-pub behind_read : (at : KeyKind) (of : Key) (v : Option Value) (bytes rest last : List ℕ) → IsKeyAt (key_number at) bytes of rest → IsValueOf (shape_of at) v
-    → rest ≡ value_bytes v ++ last → IsStored (record { key = of; value = v }) × (key_number at ∷ bytes ≡ write_bytes (record { key = of; value = v }) ++ last)
+pub behind_read : (at : KeyKind) (of : Key) (v : Option Value) (bytes rest last : List ℕ)
+    → IsKeyAt (key_number at) bytes of rest → IsValueOf (shape_of at) v
+    → rest ≡ value_bytes v ++ last
+    → IsStored (record { key = of; value = v })
+    × (key_number at ∷ bytes ≡ write_bytes (record { key = of; value = v }) ++ last)
 behind_read at of v bytes rest last is fits e =
     let le : 3 ≤ kind_of of = subst (λ n. 3 ≤ n) (sym is.kind) (stored_kind at) in (
       record {
@@ -187,7 +204,8 @@ behind_read at of v bytes rest last is fits e =
         is_key = is.is_key;
         takes = (takes_same of v).0 (subst (λ s. IsValueOf s v) (same_shape at of is.kind) fits) le;
       },
-      ap (λ n. n ∷ bytes) (sym is.kind) ∙ ap (λ t. kind_of of ∷ t) (is.read ∙ ap (λ t. fields of ++ t) e ∙ sym (append_assoc (fields of) (value_bytes v) last)),
+      ap (λ n. n ∷ bytes) (sym is.kind) ∙ ap (λ t. kind_of of ∷ t) (is.read ∙ ap (λ t. fields of ++ t) e
+          ∙ sym (append_assoc (fields of) (value_bytes v) last)),
     )
 
 -- ---- writes
@@ -196,16 +214,25 @@ pub writes_grammar : IsGrammar Writes
 writes_grammar = record {
   free = tagged_free key_number Behind kind_once (λ at. (behind_grammar at).free);
   text = 3 ∷ (behind_grammar kind.Net).text;
-  some = record { tag = kind.Net; back = (behind_grammar kind.Net).text; split = refl; second = (behind_grammar kind.Net).some };
+  some = record {
+    tag = kind.Net;
+    back = (behind_grammar kind.Net).text;
+    split = refl;
+    second = (behind_grammar kind.Net).some;
+  };
 }
 
 pub write_none : (bytes : List ℕ) → bytes ≡ [] → IsStuck Writes bytes 0
 write_none bytes nil = tagged_none key_number Behind bytes writes_grammar.text writes_grammar.some nil
 
-pub write_bad : (byte : ℕ) (bytes rest : List ℕ) → bytes ≡ byte ∷ rest → ((at : KeyKind) → byte ≡ key_number at → ⊥) → IsStuck Writes bytes (length bytes)
-write_bad byte bytes rest head not = tagged_bad key_number Behind byte bytes rest writes_grammar.text writes_grammar.some head (λ tag back e is. not tag e)
+pub write_bad : (byte : ℕ) (bytes rest : List ℕ) → bytes ≡ byte ∷ rest → ((at : KeyKind) → byte ≡ key_number at → ⊥)
+    → IsStuck Writes bytes (length bytes)
+write_bad byte bytes rest head not =
+    tagged_bad key_number Behind byte bytes rest writes_grammar.text writes_grammar.some
+    head (λ tag back e is. not tag e)
 
-pub write_on : (at : KeyKind) (byte : ℕ) (bytes rest : List ℕ) (why : Stop) → bytes ≡ byte ∷ rest → byte ≡ key_number at → Stops (Behind at) rest why → Stops Writes bytes why
+pub write_on : (at : KeyKind) (byte : ℕ) (bytes rest : List ℕ) (why : Stop) → bytes ≡ byte ∷ rest → byte ≡ key_number at
+    → Stops (Behind at) rest why → Stops Writes bytes why
 write_on at byte bytes rest why head e s = tagged_on key_number Behind at byte bytes rest why kind_once head e s
 
 lists_grammar : (count : ℕ) → IsGrammar (Times count Writes)
@@ -217,12 +244,15 @@ write_lists_grammar = counted_grammar 4 0 16384 (λ count. Times count Writes) (
 pub lists_first : (bytes : List ℕ) (why : Stop) → Stops (Numbers 4 0 16384) bytes why → Stops WriteLists bytes why
 lists_first bytes why s = counted_first 4 0 16384 (λ count. Times count Writes) bytes why lists_grammar s
 
-pub lists_next : (n : ℕ) (bytes rest : List ℕ) (why : Stop) → n ≤ 16384 → bytes ≡ number 4 n ++ rest → Stops (Times n Writes) rest why → Stops WriteLists bytes why
-lists_next n bytes rest why small e s = counted_next 4 0 16384 (λ count. Times count Writes) n bytes rest why (omega arith) (omega arith) small e s
+pub lists_next : (n : ℕ) (bytes rest : List ℕ) (why : Stop) → n ≤ 16384 → bytes ≡ number 4 n ++ rest
+    → Stops (Times n Writes) rest why → Stops WriteLists bytes why
+lists_next n bytes rest why small e s =
+    counted_next 4 0 16384 (λ count. Times count Writes) n bytes rest why (omega arith) (omega arith) small e s
 
 -- ---- what a known write writes
 
-pub nums : (s : Shape) (n : ℕ) → IsValueOf s (Some (value.Num n)) → (has_form s form.Number ≡ true) × (least_of s ≤ n) × (n ≤ most_of s)
+pub nums : (s : Shape) (n : ℕ) → IsValueOf s (Some (value.Num n))
+    → (has_form s form.Number ≡ true) × (least_of s ≤ n) × (n ≤ most_of s)
 nums shape.Amount n is = (refl, omega arith, is)
 nums shape.Property n is = (refl, omega arith, is)
 nums shape.Version n is = (refl, is.0, omega (arith, is.1))
@@ -243,14 +273,16 @@ units shape.Property is = absurd is
 units shape.Names is = absurd is
 units shape.Version is = absurd is
 
-pub texts : (s : Shape) (text : List ℕ) → IsValueOf s (Some (value.Text text)) → (has_form s form.Text ≡ true) × IsUtf8 text × (length text ≤ 65535)
+pub texts : (s : Shape) (text : List ℕ) → IsValueOf s (Some (value.Text text))
+    → (has_form s form.Text ≡ true) × IsUtf8 text × (length text ≤ 65535)
 texts shape.Property text is = (refl, is.0, is.1)
 texts shape.Unit text is = absurd is
 texts shape.Amount text is = absurd is
 texts shape.Names text is = absurd is
 texts shape.Version text is = absurd is
 
-pub lists : (s : Shape) (anes : List (List ℕ)) → IsValueOf s (Some (value.Names anes)) → (has_form s form.Names ≡ true) × All IsAneName anes × (1 ≤ length anes) × (length anes ≤ 64)
+pub lists : (s : Shape) (anes : List (List ℕ)) → IsValueOf s (Some (value.Names anes))
+    → (has_form s form.Names ≡ true) × All IsAneName anes × (1 ≤ length anes) × (length anes ≤ 64)
 lists shape.Names anes is = (refl, is.0, is.1, is.2)
 lists shape.Unit anes is = absurd is
 lists shape.Amount anes is = absurd is
@@ -258,15 +290,29 @@ lists shape.Property anes is = absurd is
 lists shape.Version anes is = absurd is
 
 pub value_text : (s : Shape) (v : Option Value) → IsValueOf s v → Tagged form_number (Values s) (value_bytes v)
-value_text s None is = record { tag = form.Deletion; back = []; split = refl; second = record { fits = deletions s is; body = refl } }
-value_text s (Some value.Unit) is = record { tag = form.Unit; back = []; split = refl; second = record { fits = units s is; body = refl } }
+value_text s None is = record {
+  tag = form.Deletion;
+  back = [];
+  split = refl;
+  second = record { fits = deletions s is; body = refl };
+}
+value_text s (Some value.Unit) is =
+    record { tag = form.Unit; back = []; split = refl; second = record { fits = units s is; body = refl } }
 value_text s (Some (value.Num n)) is =
     let is_number = nums s n is in
     record {
       tag = form.Number;
       back = number 8 n;
       split = refl;
-      second = record { fits = is_number.0; body = record { value = n; above = is_number.1; below = is_number.2; spelled = refl } };
+      second = record {
+        fits = is_number.0;
+        body = record {
+          value = n;
+          above = is_number.1;
+          below = is_number.2;
+          spelled = refl;
+        };
+      };
     }
 value_text s (Some (value.Text text)) is =
     let its = texts s text is in
@@ -281,7 +327,13 @@ value_text s (Some (value.Text text)) is =
           back = text;
           split = refl;
           first = record { value = length text; above = omega arith; below = its.2; spelled = refl };
-          second = record { value = length text; above = omega arith; below = its.2; spelled = refl; body = (its.1, refl) };
+          second = record {
+            value = length text;
+            above = omega arith;
+            below = its.2;
+            spelled = refl;
+            body = (its.1, refl);
+          };
         };
       };
     }
@@ -303,7 +355,8 @@ value_text s (Some (value.Names anes)) is =
             above = its.2;
             below = its.3;
             spelled = refl;
-            body = times_from IsAneName name AneNames anes (λ ane is_ane. is_text is_pid_byte 32 ane is_ane) (recursion_from_All IsAneName anes its.1);
+            body = times_from IsAneName name AneNames anes (λ ane is_ane. is_text is_pid_byte 32 ane is_ane)
+                (recursion_from_All IsAneName anes its.1);
           };
         };
       };
@@ -337,6 +390,7 @@ is_write write is =
         back = value_bytes write.value;
         split = refl;
         first = fields_text at.0 write.key at.1 is.is_key;
-        second = value_text (shape_of at.0) write.value (subst (λ s. IsValueOf s write.value) (sym (same_shape at.0 write.key at.1)) fits);
+        second = value_text (shape_of at.0)
+            write.value (subst (λ s. IsValueOf s write.value) (sym (same_shape at.0 write.key at.1)) fits);
       };
     }

@@ -1,5 +1,6 @@
 -- Characters in UTF-8, byte by byte.
-use Rattle.std.proofs.Common.{◌≡◌, ℕ, zero, suc, ◌+◌, ◌-◌, ◌*◌, ◌/◌, ◌%◌, ◌<◌, ◌≤◌, inl, inr, true, List, [], ◌∷◌, ◌++◌, length, refl, sym, ap, subst, ◌∙◌, arith, le-ltb, lt-ltb}
+use Rattle.std.proofs.Common.{◌≡◌, ℕ, zero, suc, ◌+◌, ◌-◌, ◌*◌, ◌/◌, ◌%◌, ◌<◌, ◌≤◌, inl, inr, true, List, [], ◌∷◌, ◌++◌}
+use Rattle.std.proofs.Common.{length, refl, sym, ap, subst, ◌∙◌, arith, le-ltb, lt-ltb}
 use Rattle.std.specs.Prelude.{IsUtf8}
 use Rattle.std.specs.Str.Lossy.{second_byte_max, second_byte_min}
 use Rattle.std.specs.Str.{all_scalars, encode_utf8_all}
@@ -21,15 +22,19 @@ two : (c : ℕ) → 0x80 ≤ c → c < 0x800 → encode_utf8 c ≡ (192 + c / 64
 unfolding encode_utf8
 two c low high = cond-false _ _ _ (le-ltb c 128 low) ∙ cond-true _ _ _ (lt-ltb c 2048 high)
 
-three : (c : ℕ) → 0x800 ≤ c → c < 0x10000 → encode_utf8 c ≡ (224 + c / 4096) ∷ (128 + (c / 64) % 64) ∷ (128 + c % 64) ∷ []
+three : (c : ℕ) → 0x800 ≤ c → c < 0x10000
+    → encode_utf8 c ≡ (224 + c / 4096) ∷ (128 + (c / 64) % 64) ∷ (128 + c % 64) ∷ []
 unfolding encode_utf8
 three c low high =
-    cond-false _ _ _ (le-ltb c 128 (omega arith)) ∙ cond-false _ _ _ (le-ltb c 2048 low) ∙ cond-true _ _ _ (lt-ltb c 65536 high)
+    cond-false _ _ _ (le-ltb c 128 (omega arith)) ∙ cond-false _ _ _ (le-ltb c 2048 low)
+    ∙ cond-true _ _ _ (lt-ltb c 65536 high)
 
-four : (c : ℕ) → 0x10000 ≤ c → encode_utf8 c ≡ (240 + c / 262144) ∷ (128 + (c / 4096) % 64) ∷ (128 + (c / 64) % 64) ∷ (128 + c % 64) ∷ []
+four : (c : ℕ) → 0x10000 ≤ c → encode_utf8 c ≡ (240 + c / 262144) ∷ (128 + (c / 4096) % 64) ∷ (128 + (c / 64) % 64)
+    ∷ (128 + c % 64) ∷ []
 unfolding encode_utf8
 four c low =
-    cond-false _ _ _ (le-ltb c 128 (omega arith)) ∙ cond-false _ _ _ (le-ltb c 2048 (omega arith)) ∙ cond-false _ _ _ (le-ltb c 65536 low)
+    cond-false _ _ _ (le-ltb c 128 (omega arith)) ∙ cond-false _ _ _ (le-ltb c 2048 (omega arith))
+    ∙ cond-false _ _ _ (le-ltb c 65536 low)
 
 in_range : (c : ℕ) → IsScalar c → InScalarRange c
 in_range c is = grind (arith, nat_tests)
@@ -45,7 +50,8 @@ of_two x y low high low2 high2 =
     let c = (x - 192) * 64 + (y - 128) in
     let first : x ≡ 192 + c / 64 = omega arith in
     let second : y ≡ 128 + c % 64 = omega arith in
-    spelled c (x ∷ y ∷ []) (inl (omega arith)) (ap (λ b. b ∷ y ∷ []) first ∙ ap (λ b. (192 + c / 64) ∷ b ∷ []) second ∙ sym (two c (omega arith) (omega arith)))
+    spelled c (x ∷ y ∷ []) (inl (omega arith)) (ap (λ b. b ∷ y ∷ []) first ∙ ap (λ b. (192 + c / 64) ∷ b ∷ []) second
+    ∙ sym (two c (omega arith) (omega arith)))
 
 of_three : (x y z : ℕ) → 0xE0 ≤ x → x < 0xF0 → 0x80 ≤ y → y ≤ 0xBF → 0x80 ≤ z → z ≤ 0xBF
     → let c = (x - 224) * 4096 + (y - 128) * 64 + (z - 128) in 0x800 ≤ c → InScalarRange c → IsUtf8 (x ∷ y ∷ z ∷ [])
@@ -70,7 +76,8 @@ of_four x y z w low low2 high2 low3 high3 low4 high4 least most =
     spelled c (x ∷ y ∷ z ∷ w ∷ []) (inr (omega arith, omega arith))
     (ap (λ b. b ∷ y ∷ z ∷ w ∷ []) first ∙ ap (λ b. (240 + c / 262144) ∷ b ∷ z ∷ w ∷ []) second
     ∙ ap (λ b. (240 + c / 262144) ∷ (128 + (c / 4096) % 64) ∷ b ∷ w ∷ []) third
-    ∙ ap (λ b. (240 + c / 262144) ∷ (128 + (c / 4096) % 64) ∷ (128 + (c / 64) % 64) ∷ b ∷ []) fourth ∙ sym (four c (omega arith)))
+    ∙ ap (λ b. (240 + c / 262144) ∷ (128 + (c / 4096) % 64) ∷ (128 + (c / 64) % 64) ∷ b ∷ []) fourth
+    ∙ sym (four c (omega arith)))
 
 -- ---- the second byte of a character
 
@@ -131,17 +138,25 @@ below x y le = elim (cases_eq x 0xED) [
 -- ---- a text begins with a character
 
 -- the first byte of a text, and what is behind it
-by_char : (c : ℕ) (cs : List ℕ) (count byte : ℕ) (back : List ℕ) → IsScalar c → all_scalars cs ≡ true → encode_utf8 c ++ encode_utf8_all cs ≡ byte ∷ back
+by_char : (c : ℕ) (cs : List ℕ) (count byte : ℕ) (back : List ℕ) → IsScalar c → all_scalars cs ≡ true
+    → encode_utf8 c ++ encode_utf8_all cs ≡ byte ∷ back
     → suc (length back) ≡ count → Led count byte back
 by_char c cs count byte back is all e len = elim (cases_lt c 128) [
   | inl small ↦
-      let whole : c ∷ encode_utf8_all cs ≡ byte ∷ back = ap (λ t. t ++ encode_utf8_all cs) (sym (encode_ascii c small)) ∙ e in
+      let whole : c ∷ encode_utf8_all cs ≡ byte ∷ back =
+      ap (λ t. t ++ encode_utf8_all cs) (sym (encode_ascii c small)) ∙ e in
       let head : c ≡ byte = cc in
       let tail : encode_utf8_all cs ≡ back = cc in
-      record { many = 0; is_lead = omega (arith, head, small); fits = omega (arith, len); tails = ((cs, (all, tail)), omega (arith, len)) }
+      record {
+        many = 0;
+        is_lead = omega (arith, head, small);
+        fits = omega (arith, len);
+        tails = ((cs, (all, tail)), omega (arith, len));
+      }
   | inr from_two ↦ elim (cases_lt c 2048) [
     | inl small ↦
-        let whole : (192 + c / 64) ∷ (128 + c % 64) ∷ encode_utf8_all cs ≡ byte ∷ back = ap (λ t. t ++ encode_utf8_all cs) (sym (two c from_two small)) ∙ e in
+        let whole : (192 + c / 64) ∷ (128 + c % 64) ∷ encode_utf8_all cs ≡ byte ∷ back =
+        ap (λ t. t ++ encode_utf8_all cs) (sym (two c from_two small)) ∙ e in
         let head : 192 + c / 64 ≡ byte = cc in
         let tail : (128 + c % 64) ∷ encode_utf8_all cs ≡ back = cc in
         let size : suc (suc (length (encode_utf8_all cs))) ≡ count = ap (λ t. suc (length t)) tail ∙ len in
@@ -150,8 +165,10 @@ by_char c cs count byte back is all e len = elim (cases_lt c 128) [
           is_lead = (omega (arith, head, from_two), omega (arith, head, small));
           fits = omega (arith, size);
           tails = subst (λ t. Tails 1 (second_byte_min byte) (second_byte_max byte) (count - 2) t) tail (
-            at_least byte (128 + c % 64) (omega arith) (λ s. absurd (omega (arith, s, head, small))) (λ s. absurd (omega (arith, s, head, small))),
-            at_most byte (128 + c % 64) (omega arith) (λ s. absurd (omega (arith, s, head, small))) (λ s. absurd (omega (arith, s, head, small))),
+            at_least byte (128 + c % 64) (omega arith) (λ s. absurd (omega (arith, s, head, small)))
+                (λ s. absurd (omega (arith, s, head, small))),
+            at_most byte (128 + c % 64) (omega arith) (λ s. absurd (omega (arith, s, head, small)))
+                (λ s. absurd (omega (arith, s, head, small))),
             ((cs, (all, refl)), omega (arith, size)),
           );
         }
@@ -167,27 +184,41 @@ by_char c cs count byte back is all e len = elim (cases_lt c 128) [
             is_lead = (omega (arith, head), omega (arith, head, small));
             fits = omega (arith, size);
             tails = subst (λ t. Tails 2 (second_byte_min byte) (second_byte_max byte) (count - 3) t) tail (
-              at_least byte (128 + (c / 64) % 64) (omega arith) (λ s. omega (arith, s, head, from_three)) (λ s. absurd (omega (arith, s, head, small))),
+              at_least byte (128 + (c / 64) % 64) (omega arith) (λ s. omega (arith, s, head, from_three))
+                  (λ s. absurd (omega (arith, s, head, small))),
               at_most byte (128 + (c / 64) % 64) (omega arith)
-                  (λ s. elim (in_range c is) [ inl low ↦ omega (arith, s, head, low) | inr high ↦ absurd (omega (arith, s, head, high.0)) ])
+                  (λ s. elim (in_range c is) [
+                    | inl low ↦ omega (arith, s, head, low)
+                    | inr high ↦
+                        absurd (omega (arith, s, head, high.0))
+                  ])
                   (λ s. absurd (omega (arith, s, head, small))),
               (omega arith, omega arith, ((cs, (all, refl)), omega (arith, size))),
             );
           }
       | inr from_four ↦
-          let top : c < 1114112 = elim (in_range c is) [ inl low ↦ omega (arith, low) | inr high ↦ omega (arith, high.1) ] in
-          let whole : (240 + c / 262144) ∷ (128 + (c / 4096) % 64) ∷ (128 + (c / 64) % 64) ∷ (128 + c % 64) ∷ encode_utf8_all cs ≡ byte ∷ back =
+          let top : c < 1114112 = elim (in_range c is) [
+            | inl low ↦ omega (arith, low)
+            | inr high ↦
+                omega (arith, high.1)
+          ] in
+          let whole : (240 + c / 262144) ∷ (128 + (c / 4096) % 64) ∷ (128 + (c / 64) % 64) ∷ (128 + c % 64)
+          ∷ encode_utf8_all cs ≡ byte ∷ back =
           ap (λ t. t ++ encode_utf8_all cs) (sym (four c from_four)) ∙ e in
           let head : 240 + c / 262144 ≡ byte = cc in
-          let tail : (128 + (c / 4096) % 64) ∷ (128 + (c / 64) % 64) ∷ (128 + c % 64) ∷ encode_utf8_all cs ≡ back = cc in
-          let size : suc (suc (suc (suc (length (encode_utf8_all cs))))) ≡ count = ap (λ t. suc (length t)) tail ∙ len in
+          let tail : (128 + (c / 4096) % 64) ∷ (128 + (c / 64) % 64) ∷ (128 + c % 64) ∷ encode_utf8_all cs ≡ back =
+          cc in
+          let size : suc (suc (suc (suc (length (encode_utf8_all cs))))) ≡ count =
+          ap (λ t. suc (length t)) tail ∙ len in
           record {
             many = 3;
             is_lead = (omega (arith, head), omega (arith, head, top));
             fits = omega (arith, size);
             tails = subst (λ t. Tails 3 (second_byte_min byte) (second_byte_max byte) (count - 4) t) tail (
-              at_least byte (128 + (c / 4096) % 64) (omega arith) (λ s. absurd (omega (arith, s, head))) (λ s. omega (arith, s, head, from_four)),
-              at_most byte (128 + (c / 4096) % 64) (omega arith) (λ s. absurd (omega (arith, s, head))) (λ s. omega (arith, s, head, top)),
+              at_least byte (128 + (c / 4096) % 64) (omega arith) (λ s. absurd (omega (arith, s, head)))
+                  (λ s. omega (arith, s, head, from_four)),
+              at_most byte (128 + (c / 4096) % 64) (omega arith) (λ s. absurd (omega (arith, s, head)))
+                  (λ s. omega (arith, s, head, top)),
               (omega arith, omega arith, (omega arith, omega arith, ((cs, (all, refl)), omega (arith, size)))),
             );
           }
@@ -195,7 +226,8 @@ by_char c cs count byte back is all e len = elim (cases_lt c 128) [
   ]
 ]
 
-by_chars : (cs : List ℕ) (count byte : ℕ) (back : List ℕ) → all_scalars cs ≡ true → encode_utf8_all cs ≡ byte ∷ back → suc (length back) ≡ count → Led count byte back
+by_chars : (cs : List ℕ) (count byte : ℕ) (back : List ℕ) → all_scalars cs ≡ true → encode_utf8_all cs ≡ byte ∷ back
+    → suc (length back) ≡ count → Led count byte back
 by_chars [] count byte back all e len = absurd cc
 by_chars (c ∷ cs) count byte back all e len =
     let both = and_parts _ _ all in
@@ -208,8 +240,10 @@ text_led count byte back ((cs, (all, e)), len) = by_chars cs count byte back all
 
 pub led_text : (many count byte : ℕ) (back : List ℕ) → IsLead many byte → many < count
     → Tails many (second_byte_min byte) (second_byte_max byte) (count - suc many) back → Texts count (byte ∷ back)
-led_text zero count byte back lead fits (utf8, len) =
-    (IsUtf8-append (byte ∷ []) back (IsUtf8-from_ascii (byte ∷ []) (IsAscii-cons byte [] lead IsAscii-nil)) utf8, omega (arith, len, fits))
+led_text zero count byte back lead fits (utf8, len) = (
+  IsUtf8-append (byte ∷ []) back (IsUtf8-from_ascii (byte ∷ []) (IsAscii-cons byte [] lead IsAscii-nil)) utf8,
+  omega (arith, len, fits),
+)
 led_text (suc zero) count byte (y ∷ back) lead fits (low, high, (utf8, len)) =
     let up = above byte y low in
     let down = below byte y high in (
@@ -233,7 +267,8 @@ led_text (suc (suc zero)) count byte (y ∷ z ∷ back) lead fits (low, high, (l
           ])) utf8,
       omega (arith, len, fits),
     )
-led_text (suc (suc (suc zero))) count byte (y ∷ z ∷ w ∷ back) lead fits (low, high, (low2, high2, (low3, high3, (utf8, len)))) =
+led_text (suc (suc (suc zero))) count byte (y ∷ z ∷ w ∷ back) lead
+    fits (low, high, (low2, high2, (low3, high3, (utf8, len)))) =
     let up = above byte y low in
     let down = below byte y high in (
       IsUtf8-append (byte ∷ y ∷ z ∷ w ∷ []) back (of_four byte y z w lead.0 up.0 down.0 low2 high2 low3 high3
@@ -260,8 +295,14 @@ led_text (suc (suc (suc (suc many)))) count byte back lead fits is = absurd lead
 pub some_text : (count : ℕ) → (text : List ℕ) × Texts count text
 some_text zero = ([], (IsUtf8-nil, refl))
 some_text (suc count) =
-    let more = some_text count in
-    (0 ∷ more.0, (IsUtf8-append (0 ∷ []) more.0 (IsUtf8-from_ascii (0 ∷ []) (IsAscii-cons 0 [] (omega arith) IsAscii-nil)) more.1.0, ap suc more.1.1))
+    let more = some_text count in (
+      0 ∷ more.0,
+      (
+        IsUtf8-append (0 ∷ [])
+            more.0 (IsUtf8-from_ascii (0 ∷ []) (IsAscii-cons 0 [] (omega arith) IsAscii-nil)) more.1.0,
+        ap suc more.1.1,
+      ),
+    )
 
 some_tails : (many least most behind : ℕ) → least ≤ most → (text : List ℕ) × Tails many least most behind text
 some_tails zero least most behind le = some_text behind
@@ -271,10 +312,13 @@ some_tails (suc many) least most behind le =
 
 seconds : (byte : ℕ) → second_byte_min byte ≤ second_byte_max byte
 seconds byte = elim (cases_eq byte 0xE0) [
-  | inl e0 ↦ rw (eq-eqb byte 0xE0 e0) (at_most byte 0xA0 (omega arith) (λ e. absurd (omega (arith, e0, e))) (λ e. absurd (omega (arith, e0, e))))
+  | inl e0 ↦ rw (eq-eqb byte 0xE0 e0) (at_most byte 0xA0 (omega arith) (λ e. absurd (omega (arith, e0, e)))
+      (λ e. absurd (omega (arith, e0, e))))
   | inr other ↦ elim (cases_eq byte 0xF0) [
-    | inl f0 ↦ rw (ne_eqb byte 0xE0 other, eq-eqb byte 0xF0 f0) (at_most byte 0x90 (omega arith) (λ e. absurd (omega (arith, f0, e))) (λ e. absurd (omega (arith, f0, e))))
-    | inr neither ↦ rw (ne_eqb byte 0xE0 other, ne_eqb byte 0xF0 neither) (at_most byte 0x80 (omega arith) (λ e. omega arith) (λ e. omega arith))
+    | inl f0 ↦ rw (ne_eqb byte 0xE0 other, eq-eqb byte 0xF0 f0)
+        (at_most byte 0x90 (omega arith) (λ e. absurd (omega (arith, f0, e))) (λ e. absurd (omega (arith, f0, e))))
+    | inr neither ↦ rw (ne_eqb byte 0xE0 other, ne_eqb byte 0xF0 neither)
+        (at_most byte 0x80 (omega arith) (λ e. omega arith) (λ e. omega arith))
   ]
 ]
 
@@ -299,13 +343,19 @@ lead_once (suc (suc (suc (suc one)))) other byte a b = absurd a
 lead_once one (suc (suc (suc (suc other)))) byte a b = absurd b
 
 pub lead_passes : (many count byte : ℕ) (next : Inside) → IsLead many byte → many < count
-    → next ≡ record { many = many; least = second_byte_min byte; most = second_byte_max byte; behind = count - suc many } → Passes (Texts count) byte next
+    → next ≡ record {
+      many = many;
+      least = second_byte_min byte;
+      most = second_byte_max byte;
+      behind = count - suc many;
+    } → Passes (Texts count) byte next
 lead_passes many count byte next lead fits is =
     let some = some_tails many (second_byte_min byte) (second_byte_max byte) (count - suc many) (seconds byte) in
     subst (λ n. Passes (Texts count) byte n) (sym is) (record {
       to = λ text its.
           let led = text_led count byte text its in
-          subst (λ n. Tails n (second_byte_min byte) (second_byte_max byte) (count - suc n) text) (lead_once led.many many byte led.is_lead lead) led.tails;
+          subst (λ n. Tails n (second_byte_min byte) (second_byte_max byte) (count - suc n) text)
+          (lead_once led.many many byte led.is_lead lead) led.tails;
       from = λ text its. led_text many count byte text lead fits its;
       some = some.0;
       goes_on = some.1;
@@ -320,7 +370,8 @@ no_room many count byte text lead le is =
     omega (arith, le, led.fits, lead_once led.many many byte led.is_lead lead)
 
 after_tail : (many least most behind byte : ℕ) → least ≤ byte → byte ≤ most
-    → Passes (Tails (suc many) least most behind) byte (record { many = many; least = 0x80; most = 0xBF; behind = behind })
+    → Passes (Tails (suc many) least most behind)
+    byte (record { many = many; least = 0x80; most = 0xBF; behind = behind })
 after_tail many least most behind byte low high =
     let some = some_tails many 0x80 0xBF behind (omega arith) in
     record { to = λ text its. its.2; from = λ text its. (low, high, its); some = some.0; goes_on = some.1 }
@@ -328,5 +379,6 @@ after_tail many least most behind byte low high =
 pub tail_passes : (many rest least most behind byte : ℕ) → many ≡ suc rest → least ≤ byte → byte ≤ most
     → Passes (Tails many least most behind) byte (record { many = rest; least = 0x80; most = 0xBF; behind = behind })
 tail_passes many rest least most behind byte is low high =
-    subst (λ n. Passes (Tails n least most behind) byte (record { many = rest; least = 0x80; most = 0xBF; behind = behind })) (sym is)
+    subst (λ n. Passes (Tails n least most behind)
+    byte (record { many = rest; least = 0x80; most = 0xBF; behind = behind })) (sym is)
     (after_tail rest least most behind byte low high)

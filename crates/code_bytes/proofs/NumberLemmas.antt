@@ -1,8 +1,10 @@
 -- A number of a range byte by byte.
-use Rattle.std.proofs.Common.{◌≡◌, ℕ, zero, suc, ◌+◌, ◌*◌, ◌/◌, ◌%◌, ◌^◌, ◌<◌, ◌≤◌, inl, inr, List, [], ◌∷◌, ◌++◌, length, refl, sym, ap, subst, ◌∙◌, arith}
+use Rattle.std.proofs.Common.{◌≡◌, ℕ, zero, suc, ◌+◌, ◌*◌, ◌/◌, ◌%◌, ◌^◌, ◌<◌, ◌≤◌, inl, inr, List, [], ◌∷◌, ◌++◌}
+use Rattle.std.proofs.Common.{length, refl, sym, ap, subst, ◌∙◌, arith}
 use Rattle.std.specs.Int.{byte_at}
 use Rattle.std.proofs.lemmas.Bool.{cases_eq, cases_lt}
-use Rattle.std.proofs.lemmas.Nat.{pow_pos, pow-add, shl-shr, shr-shr, shr_le, shr_split, div-add-mod', le-div, div-mul-add, mod-mul-add, mod_below}
+use Rattle.std.proofs.lemmas.Nat.{pow_pos, pow-add, shl-shr, shr-shr, shr_le, shr_split, div-add-mod', le-div}
+use Rattle.std.proofs.lemmas.Nat.{div-mul-add, mod-mul-add, mod_below}
 use Rattle.std.proofs.Math.Nat.{pow-suc, div-one, mul-le-mul_right, div-mul-le_self}
 use Rattle.code_bytes.specs.declared.stop.Stop.{Stop}
 use Rattle.code_bytes.specs.Stuck.{IsStuck, Stops, Headed}
@@ -31,7 +33,8 @@ behind_byte k n =
 abbrev Rest : ℕ → ℕ → ℕ → ℕ → ℕ → List ℕ → Type 0
 Rest count before least most byte back = (byte < 256) × NumbersFrom count (before * 256 + byte) least most back
 
-uncons : (count before least most : ℕ) (text : List ℕ) → NumbersFrom (suc count) before least most text → Headed (Rest count before least most) text
+uncons : (count before least most : ℕ) (text : List ℕ) → NumbersFrom (suc count) before least most text
+    → Headed (Rest count before least most) text
 uncons count before least most text is =
     let q = is.value / 2 ^ (8 * count) in
     let top : q / 256 ≡ before = sym (behind_byte count is.value) ∙ is.begins in
@@ -53,7 +56,8 @@ uncons count before least most text is =
       );
     }
 
-cons : (count before least most : ℕ) (text : List ℕ) → Headed (Rest count before least most) text → NumbersFrom (suc count) before least most text
+cons : (count before least most : ℕ) (text : List ℕ) → Headed (Rest count before least most) text
+    → NumbersFrom (suc count) before least most text
 cons count before least most text is =
     let its = is.second.1 in
     let q = its.value / 2 ^ (8 * count) in
@@ -72,9 +76,12 @@ cons count before least most text is =
 div_rises : (a b k : ℕ) → a ≤ b → a / 2 ^ k ≤ b / 2 ^ k
 div_rises a b k le = le-div (a / 2 ^ k) b (2 ^ k) (pow_pos k) (omega (arith, div-mul-le_self a (2 ^ k)))
 
-begins_if : (count before least most : ℕ) (text : List ℕ) → NumbersFrom count before least most text → Begins count before least most
-begins_if count before least most text is =
-    (omega (arith, is.begins, div_rises least is.value (8 * count) is.above), omega (arith, is.begins, div_rises is.value most (8 * count) is.below))
+begins_if : (count before least most : ℕ) (text : List ℕ) → NumbersFrom count before least most text
+    → Begins count before least most
+begins_if count before least most text is = (
+  omega (arith, is.begins, div_rises least is.value (8 * count) is.above),
+  omega (arith, is.begins, div_rises is.value most (8 * count) is.below),
+)
 
 pub some_number : (count before least most : ℕ) → least ≤ most → Begins count before least most
     → (text : List ℕ) × NumbersFrom count before least most text
@@ -111,8 +118,10 @@ number_none count before least most le begins =
     stuck_same _ _ [] 0 (cons count before least most) (uncons count before least most)
     (headed_none (Rest count before least most) some.0 (uncons count before least most some.0 some.1))
 
-pub number_bad : (count before least most byte : ℕ) (rest : List ℕ) → least ≤ most → Begins (suc count) before least most
-    → (Begins count (before * 256 + byte) least most → ⊥) → IsStuck (NumbersFrom (suc count) before least most) (byte ∷ rest) (suc (length rest))
+pub number_bad : (count before least most byte : ℕ) (rest : List ℕ) → least ≤ most
+    → Begins (suc count) before least most
+    → (Begins count (before * 256 + byte) least most → ⊥)
+    → IsStuck (NumbersFrom (suc count) before least most) (byte ∷ rest) (suc (length rest))
 number_bad count before least most byte rest le begins not =
     let some = some_number (suc count) before least most le begins in
     stuck_same _ _ (byte ∷ rest) (suc (length rest)) (cons count before least most) (uncons count before least most)
@@ -120,51 +129,66 @@ number_bad count before least most byte rest le begins not =
     (λ back its. not (begins_if count (before * 256 + byte) least most back its.1)))
 
 pub number_on : (count before least most byte : ℕ) (rest : List ℕ) (why : Stop) → byte < 256
-    → Stops (NumbersFrom count (before * 256 + byte) least most) rest why → Stops (NumbersFrom (suc count) before least most) (byte ∷ rest) why
+    → Stops (NumbersFrom count (before * 256 + byte) least most) rest why
+    → Stops (NumbersFrom (suc count) before least most) (byte ∷ rest) why
 number_on count before least most byte rest why small s =
-    stops_same (Headed (Rest count before least most)) (NumbersFrom (suc count) before least most) (byte ∷ rest) why (cons count before least most) (uncons count before least most)
+    stops_same (Headed (Rest count before least most)) (NumbersFrom (suc count) before least most) (byte ∷ rest)
+    why (cons count before least most) (uncons count before least most)
     (headed_on_stops (Rest count before least most) byte rest why
-    (stops_same (NumbersFrom count (before * 256 + byte) least most) (Rest count before least most byte) rest why (λ text is. (small, is)) (λ text is. is.1) s))
+    (stops_same (NumbersFrom count (before * 256 + byte) least most) (Rest count before least most byte) rest
+    why (λ text is. (small, is)) (λ text is. is.1) s))
 
 -- ---- a number that was read
 
-pub number_read : (count before value byte : ℕ) (bytes rest : List ℕ) → byte < 256 → value / 2 ^ (8 * count) ≡ before * 256 + byte
+pub number_read : (count before value byte : ℕ) (bytes rest : List ℕ) → byte < 256
+    → value / 2 ^ (8 * count) ≡ before * 256 + byte
     → bytes ≡ number count value ++ rest → byte ∷ bytes ≡ number (suc count) value ++ rest
 number_read count before value byte bytes rest small begins e =
-    let low : byte_at count value ≡ byte = byte_is count value ∙ ap (λ x. x % 256) begins ∙ mod-mul-add before 256 byte small in
+    let low : byte_at count value ≡ byte = byte_is count value ∙ ap (λ x. x % 256) begins
+    ∙ mod-mul-add before 256 byte small in
     ap (λ t. byte ∷ t) e ∙ ap (λ b. b ∷ (number count value ++ rest)) (sym low)
 
-pub begun : (count before value byte : ℕ) → byte < 256 → value / 2 ^ (8 * count) ≡ before * 256 + byte → value / 2 ^ (8 * suc count) ≡ before
-begun count before value byte small begins = behind_byte count value ∙ ap (λ x. x / 256) begins ∙ div-mul-add before 256 byte small
+pub begun : (count before value byte : ℕ) → byte < 256 → value / 2 ^ (8 * count) ≡ before * 256 + byte
+    → value / 2 ^ (8 * suc count) ≡ before
+begun count before value byte small begins = behind_byte count value ∙ ap (λ x. x / 256) begins
+    ∙ div-mul-add before 256 byte small
 
 -- ---- the same with a count that isn't zero
 
-pub fits_more : (count k before most : ℕ) → count ≡ suc k → most < 2 ^ 64 → before ≤ most / 2 ^ (8 * count) → before < 2 ^ 56
+pub fits_more : (count k before most : ℕ) → count ≡ suc k → most < 2 ^ 64 → before ≤ most / 2 ^ (8 * count)
+    → before < 2 ^ 56
 fits_more count k before most e small below =
     let top : most / 2 ^ (8 * count) ≡ most / 2 ^ (8 * k) / 256 = ap (λ n. most / 2 ^ (8 * n)) e ∙ behind_byte k most in
     omega (arith, top, shr_le most (8 * k))
 
-pub none_at : (count k before least most : ℕ) (bytes : List ℕ) → count ≡ suc k → least ≤ most → Begins count before least most → bytes ≡ []
+pub none_at : (count k before least most : ℕ) (bytes : List ℕ) → count ≡ suc k → least ≤ most
+    → Begins count before least most → bytes ≡ []
     → IsStuck (NumbersFrom count before least most) bytes 0
 none_at count k before least most bytes e le begins nil =
     subst (λ b. IsStuck (NumbersFrom count before least most) b 0) (sym nil)
     (subst (λ n. IsStuck (NumbersFrom n before least most) [] 0) (sym e)
     (number_none k before least most le (subst (λ n. Begins n before least most) e begins)))
 
-pub bad_at : (count k before least most byte : ℕ) (bytes rest : List ℕ) → count ≡ suc k → least ≤ most → Begins count before least most
-    → bytes ≡ byte ∷ rest → (Begins k (before * 256 + byte) least most → ⊥) → IsStuck (NumbersFrom count before least most) bytes (length bytes)
+pub bad_at : (count k before least most byte : ℕ) (bytes rest : List ℕ) → count ≡ suc k → least ≤ most
+    → Begins count before least most
+    → bytes ≡ byte ∷ rest → (Begins k (before * 256 + byte) least most → ⊥)
+    → IsStuck (NumbersFrom count before least most) bytes (length bytes)
 bad_at count k before least most byte bytes rest e le begins head not =
     subst (λ b. IsStuck (NumbersFrom count before least most) b (length b)) (sym head)
     (subst (λ n. IsStuck (NumbersFrom n before least most) (byte ∷ rest) (suc (length rest))) (sym e)
     (number_bad k before least most byte rest le (subst (λ n. Begins n before least most) e begins) not))
 
-pub on_at : (count k before least most byte : ℕ) (bytes rest : List ℕ) (why : Stop) → count ≡ suc k → byte < 256 → bytes ≡ byte ∷ rest
-    → Stops (NumbersFrom k (before * 256 + byte) least most) rest why → Stops (NumbersFrom count before least most) bytes why
+pub on_at : (count k before least most byte : ℕ) (bytes rest : List ℕ) (why : Stop) → count ≡ suc k → byte < 256
+    → bytes ≡ byte ∷ rest
+    → Stops (NumbersFrom k (before * 256 + byte) least most) rest why
+    → Stops (NumbersFrom count before least most) bytes why
 on_at count k before least most byte bytes rest why e small head s =
     subst (λ b. Stops (NumbersFrom count before least most) b why) (sym head)
-    (subst (λ n. Stops (NumbersFrom n before least most) (byte ∷ rest) why) (sym e) (number_on k before least most byte rest why small s))
+    (subst (λ n. Stops (NumbersFrom n before least most) (byte ∷ rest) why) (sym e)
+    (number_on k before least most byte rest why small s))
 
-pub read_at : (count k before value byte : ℕ) (bytes behind rest : List ℕ) → count ≡ suc k → byte < 256 → bytes ≡ byte ∷ behind
+pub read_at : (count k before value byte : ℕ) (bytes behind rest : List ℕ) → count ≡ suc k → byte < 256
+    → bytes ≡ byte ∷ behind
     → value / 2 ^ (8 * k) ≡ before * 256 + byte → behind ≡ number k value ++ rest
     → (value / 2 ^ (8 * count) ≡ before) × (bytes ≡ number count value ++ rest)
 read_at count k before value byte bytes behind rest e small head begins e2 = (
@@ -174,8 +198,10 @@ read_at count k before value byte bytes behind rest e small head begins e2 = (
 
 -- ---- numbers without bytes before them
 
-pub from_whole : (count least most : ℕ) (text : List ℕ) → NumbersFrom count 0 least most text → Numbers count least most text
-from_whole count least most text is = record { value = is.value; above = is.above; below = is.below; spelled = is.spelled }
+pub from_whole : (count least most : ℕ) (text : List ℕ) → NumbersFrom count 0 least most text
+    → Numbers count least most text
+from_whole count least most text is =
+    record { value = is.value; above = is.above; below = is.below; spelled = is.spelled }
 
 div_zero : (n p : ℕ) → 0 < p → n < p → n / p ≡ 0
 div_zero n p pos small =
@@ -188,7 +214,8 @@ div_zero n p pos small =
 pub none_before : (count n most : ℕ) → n ≤ most → most < 2 ^ (8 * count) → n / 2 ^ (8 * count) ≡ 0
 none_before count n most le small = div_zero n (2 ^ (8 * count)) (pow_pos (8 * count)) (omega arith)
 
-pub to_whole : (count least most : ℕ) (text : List ℕ) → most < 2 ^ (8 * count) → Numbers count least most text → NumbersFrom count 0 least most text
+pub to_whole : (count least most : ℕ) (text : List ℕ) → most < 2 ^ (8 * count) → Numbers count least most text
+    → NumbersFrom count 0 least most text
 to_whole count least most text small is = record {
   value = is.value;
   above = is.above;

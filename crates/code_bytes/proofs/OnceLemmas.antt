@@ -1,5 +1,6 @@
 -- Pieces that begin the same bytes are the same, and so is what is behind them.
-use Rattle.std.proofs.Common.{◌≡◌, ℕ, ◌-◌, ◌*◌, ◌/◌, ◌%◌, ◌^◌, ◌<◌, ◌≤◌, List, [], ◌∷◌, ◌++◌, length, refl, sym, ap, subst, ◌∙◌, append_assoc, arith}
+use Rattle.std.proofs.Common.{◌≡◌, ℕ, ◌-◌, ◌*◌, ◌/◌, ◌%◌, ◌^◌, ◌<◌, ◌≤◌, List, [], ◌∷◌, ◌++◌, length, refl, sym, ap}
+use Rattle.std.proofs.Common.{subst, ◌∙◌, append_assoc, arith}
 use Rattle.alto_addr.specs.declared.addr.Addr.{Addr}
 use Rattle.alto_addr.specs.declared.addr.Addr.TheVariants.{V4, V6}
 use Rattle.alto_addr.specs.declared.prefix.Prefix.{Prefix}
@@ -26,31 +27,39 @@ append_once (x ∷ a) (y ∷ b) r s len e =
 pub name_apart : (a b r s : List ℕ) → name a ++ r ≡ name b ++ s → (a ≡ b) × (r ≡ s)
 name_apart a b r s e = append_once a b r s (head_is _ _ _ _ e) (tail_is _ _ _ _ e)
 
-pub names_apart : (a b c d r s : List ℕ) → (name a ++ name b) ++ r ≡ (name c ++ name d) ++ s → (a ≡ c) × (b ≡ d) × (r ≡ s)
+pub names_apart : (a b c d r s : List ℕ) → (name a ++ name b) ++ r ≡ (name c ++ name d) ++ s
+    → (a ≡ c) × (b ≡ d) × (r ≡ s)
 names_apart a b c d r s e =
-    let one = name_apart a c (name b ++ r) (name d ++ s) (sym (append_assoc (name a) (name b) r) ∙ e ∙ append_assoc (name c) (name d) s) in
+    let one = name_apart a c (name b ++ r) (name d ++ s) (sym (append_assoc (name a) (name b) r) ∙ e
+    ∙ append_assoc (name c) (name d) s) in
     let two = name_apart b d r s one.1 in
     (one.0, two.0, two.1)
 
-pub number_apart : (count most n m : ℕ) (r s : List ℕ) → most < 2 ^ (8 * count) → n ≤ most → m ≤ most → number count n ++ r ≡ number count m ++ s
+pub number_apart : (count most n m : ℕ) (r s : List ℕ) → most < 2 ^ (8 * count) → n ≤ most → m ≤ most
+    → number count n ++ r ≡ number count m ++ s
     → (n ≡ m) × (r ≡ s)
 number_apart count most n m r s small low high e =
-    let both = append_once (number count n) (number count m) r s (length_number count n ∙ sym (length_number count m)) e in
+    let both = append_once (number count n) (number count m) r s (length_number count n
+    ∙ sym (length_number count m)) e in
     (number_once count most n m small low high both.0, both.1)
 
 halves : (n m : ℕ) → n / 2 ^ 64 ≡ m / 2 ^ 64 → n % 2 ^ 64 ≡ m % 2 ^ 64 → n ≡ m
 halves n m high low = omega (arith, high, low)
 
-address_apart : (a b : Addr) (r s : List ℕ) → HasBits a → HasBits b → family_of a ≡ family_of b → address a ++ r ≡ address b ++ s → (a ≡ b) × (r ≡ s)
+address_apart : (a b : Addr) (r s : List ℕ) → HasBits a → HasBits b → family_of a ≡ family_of b
+    → address a ++ r ≡ address b ++ s → (a ≡ b) × (r ≡ s)
 address_apart (V4 n) (V4 m) r s low high same e =
     let both = number_apart 4 (2 ^ 32 - 1) n m r s (omega arith) (omega (arith, low)) (omega (arith, high)) e in
     (ap V4 both.0, both.1)
 address_apart (V4 n) (V6 m) r s low high same e = absurd cc
 address_apart (V6 n) (V4 m) r s low high same e = absurd cc
 address_apart (V6 n) (V6 m) r s low high same e =
-    let whole = sym (append_assoc (number 8 (n / 2 ^ 64)) (number 8 (n % 2 ^ 64)) r) ∙ e ∙ append_assoc (number 8 (m / 2 ^ 64)) (number 8 (m % 2 ^ 64)) s in
-    let one = number_apart 8 (2 ^ 64 - 1) (n / 2 ^ 64) (m / 2 ^ 64) _ _ (omega arith) (omega (arith, low)) (omega (arith, high)) whole in
-    let two = number_apart 8 (2 ^ 64 - 1) (n % 2 ^ 64) (m % 2 ^ 64) r s (omega arith) (omega arith) (omega arith) one.1 in
+    let whole = sym (append_assoc (number 8 (n / 2 ^ 64)) (number 8 (n % 2 ^ 64)) r) ∙ e
+    ∙ append_assoc (number 8 (m / 2 ^ 64)) (number 8 (m % 2 ^ 64)) s in
+    let one = number_apart 8 (2 ^ 64 - 1) (n / 2 ^ 64) (m / 2 ^ 64) _ _ (omega arith) (omega (arith, low))
+    (omega (arith, high)) whole in
+    let two = number_apart 8 (2 ^ 64 - 1) (n % 2 ^ 64) (m % 2 ^ 64) r s (omega arith) (omega arith)
+    (omega arith) one.1 in
     (ap V6 (halves n m one.0 two.0), two.1)
 
 -- a prefix of these parts
@@ -68,7 +77,8 @@ one_prefix p q addrs lens =
     (λ is i. prefix_of p.addr p.len (one_proof p.addr p.len p.is_prefix is i)) in
     subst (λ addr. (is : IsPrefix addr q.len) → p ≡ prefix_of addr q.len is) addrs at_len q.is_prefix
 
-pub prefix_apart : (p q : Prefix) (r s : List ℕ) → HasBits p.addr → HasBits q.addr → prefix p ++ r ≡ prefix q ++ s → (p ≡ q) × (r ≡ s)
+pub prefix_apart : (p q : Prefix) (r s : List ℕ) → HasBits p.addr → HasBits q.addr → prefix p ++ r ≡ prefix q ++ s
+    → (p ≡ q) × (r ≡ s)
 prefix_apart p q r s low high e =
     let same : family_of p.addr ≡ family_of q.addr = head_is _ _ _ _ e in
     let tail : (address p.addr ++ (p.len ∷ [])) ++ r ≡ (address q.addr ++ (q.len ∷ [])) ++ s = tail_is _ _ _ _ e in

@@ -1,5 +1,6 @@
 -- How readers of parts stop where a reader of the whole stops.
-use Rattle.std.proofs.Common.{◌≡◌, ℕ, suc, ◌<◌, ◌≤◌, ◌⊎◌, inl, inr, List, [], ◌∷◌, ◌++◌, length, Option, Some, None, refl, sym, ap, subst, ◌∙◌, append_assoc, append-nil, arith}
+use Rattle.std.proofs.Common.{◌≡◌, ℕ, suc, ◌<◌, ◌≤◌, ◌⊎◌, inl, inr, List, [], ◌∷◌, ◌++◌, length, Option, Some, None}
+use Rattle.std.proofs.Common.{refl, sym, ap, subst, ◌∙◌, append_assoc, append-nil, arith}
 use Rattle.std.proofs.lemmas.Bool.{cases_eq, eq-eqb, ne_eqb}
 use Rattle.std.proofs.lemmas.List.{append_cancel_left, length-append}
 use Rattle.code_bytes.specs.declared.stop.Stop.{Stop}
@@ -21,10 +22,12 @@ none_is a e = absurd cc
 pub same_head : (a : ℕ) (text bytes : List ℕ) → left_at (a ∷ text) (a ∷ bytes) ≡ left_at text bytes
 same_head a text bytes = rw (eq-eqb a a refl) refl
 
-pub other_head : (a b : ℕ) (text bytes : List ℕ) → (a ≡ b → ⊥) → left_at (a ∷ text) (b ∷ bytes) ≡ Some (suc (length bytes))
+pub other_head : (a b : ℕ) (text bytes : List ℕ) → (a ≡ b → ⊥)
+    → left_at (a ∷ text) (b ∷ bytes) ≡ Some (suc (length bytes))
 other_head a b text bytes ne = rw (ne_eqb a b ne) refl
 
-pub parts_early : (text more bytes : List ℕ) (left : ℕ) → left_at text bytes ≡ Some left → left_at (text ++ more) bytes ≡ Some left
+pub parts_early : (text more bytes : List ℕ) (left : ℕ) → left_at text bytes ≡ Some left
+    → left_at (text ++ more) bytes ≡ Some left
 parts_early [] more bytes left e = absurd cc
 parts_early (a ∷ text) more [] left e = e
 parts_early (a ∷ text) more (b ∷ bytes) left e = elim (cases_eq a b) [
@@ -78,7 +81,8 @@ parts_behind (a ∷ text) (b ∷ front) rest left e = elim (cases_eq a b) [
         | inr on ↦ inr (on.0, ap (λ x. x ∷ text) same ∙ ap (λ t. b ∷ t) on.1)
       ]
   | inr other ↦
-      let here : suc (length (front ++ rest)) ≡ left = some_is _ _ (sym (other_head a b text (front ++ rest) other) ∙ e) in
+      let here : suc (length (front ++ rest)) ≡ left =
+      some_is _ _ (sym (other_head a b text (front ++ rest) other) ∙ e) in
       inl (omega (arith, here, length-append front rest))
 ]
 
@@ -104,7 +108,8 @@ stops_same One Other bytes stop.Memory to from s = tt
 -- ---- one after another
 
 first_stuck : (First : List ℕ → Type 0) (Next : List ℕ → List ℕ → Type 0) (bytes : List ℕ) (left : ℕ)
-    → ((front : List ℕ) → First front → (back : List ℕ) × Next front back) → IsStuck First bytes left → IsStuck (Chain First Next) bytes left
+    → ((front : List ℕ) → First front → (back : List ℕ) × Next front back) → IsStuck First bytes left
+    → IsStuck (Chain First Next) bytes left
 first_stuck First Next bytes left some s =
     let on = some s.text s.is_text in
     record {
@@ -116,8 +121,10 @@ first_stuck First Next bytes left some s =
           (here.0, ap (λ t. left_at t bytes) is.split ∙ parts_early is.front is.back bytes here.0 here.1, here.2);
     }
 
-least_next : (First : List ℕ → Type 0) (Next : List ℕ → List ℕ → Type 0) (front rest : List ℕ) (left : ℕ) → IsFree First → First front
-    → IsStuck (Next front) rest left → (found : Option ℕ) (other : List ℕ) (is : Chain First Next other) → left_at is.front (front ++ rest) ≡ found
+least_next : (First : List ℕ → Type 0) (Next : List ℕ → List ℕ → Type 0) (front rest : List ℕ) (left : ℕ)
+    → IsFree First → First front
+    → IsStuck (Next front) rest left → (found : Option ℕ) (other : List ℕ) (is : Chain First Next other)
+    → left_at is.front (front ++ rest) ≡ found
     → (more : ℕ) × (left_at other (front ++ rest) ≡ Some more) × (left ≤ more)
 least_next First Next front rest left free first s None other is e =
     let whole = begins_whole is.front (front ++ rest) e in
@@ -139,7 +146,8 @@ least_next First Next front rest left free first s (Some more) other is e = (
   ],
 )
 
-next_stuck : (First : List ℕ → Type 0) (Next : List ℕ → List ℕ → Type 0) (front rest : List ℕ) (left : ℕ) → IsFree First → First front
+next_stuck : (First : List ℕ → Type 0) (Next : List ℕ → List ℕ → Type 0) (front rest : List ℕ) (left : ℕ)
+    → IsFree First → First front
     → IsStuck (Next front) rest left → IsStuck (Chain First Next) (front ++ rest) left
 next_stuck First Next front rest left free first s = record {
   text = front ++ s.text;
@@ -149,17 +157,20 @@ next_stuck First Next front rest left free first s = record {
 }
 
 pub first_stops : (First : List ℕ → Type 0) (Next : List ℕ → List ℕ → Type 0) (bytes : List ℕ) (why : Stop)
-    → ((front : List ℕ) → First front → (back : List ℕ) × Next front back) → Stops First bytes why → Stops (Chain First Next) bytes why
+    → ((front : List ℕ) → First front → (back : List ℕ) × Next front back) → Stops First bytes why
+    → Stops (Chain First Next) bytes why
 first_stops First Next bytes (stop.Left left) some s = first_stuck First Next bytes left some s
 first_stops First Next bytes stop.Memory some s = tt
 
-pub next_stops : (First : List ℕ → Type 0) (Next : List ℕ → List ℕ → Type 0) (bytes front rest : List ℕ) (why : Stop) → IsFree First
+pub next_stops : (First : List ℕ → Type 0) (Next : List ℕ → List ℕ → Type 0) (bytes front rest : List ℕ) (why : Stop)
+    → IsFree First
     → First front → bytes ≡ front ++ rest → Stops (Next front) rest why → Stops (Chain First Next) bytes why
 next_stops First Next bytes front rest (stop.Left left) free first e s =
     subst (λ b. IsStuck (Chain First Next) b left) (sym e) (next_stuck First Next front rest left free first s)
 next_stops First Next bytes front rest stop.Memory free first e s = tt
 
-pub chain_free : (First : List ℕ → Type 0) (Next : List ℕ → List ℕ → Type 0) → IsFree First → ((front : List ℕ) → First front → IsFree (Next front))
+pub chain_free : (First : List ℕ → Type 0) (Next : List ℕ → List ℕ → Type 0) → IsFree First
+    → ((front : List ℕ) → First front → IsFree (Next front))
     → IsFree (Chain First Next)
 chain_free First Next free later a b r s one other e =
     let apart : one.front ++ (one.back ++ r) ≡ other.front ++ (other.back ++ s) =
@@ -169,7 +180,8 @@ chain_free First Next free later a b r s one other e =
     let behind : one.back ++ r ≡ other.back ++ s =
     append_cancel_left other.front _ _ (ap (λ t. t ++ (one.back ++ r)) (sym same) ∙ apart) in
     let backs : one.back ≡ other.back =
-    later other.front other.first one.back other.back r s (subst (λ t. Next t one.back) same one.second) other.second behind in
+    later other.front other.first one.back other.back r s (subst (λ t. Next t one.back) same one.second)
+    other.second behind in
     one.split ∙ ap (λ t. t ++ one.back) same ∙ ap (λ t. other.front ++ t) backs ∙ sym other.split
 
 -- ---- a byte, and what depends on it
@@ -224,10 +236,12 @@ headed_on_stops Next byte rest stop.Memory s = tt
 
 pub headed_free : (Next : ℕ → List ℕ → Type 0) → ((byte : ℕ) → IsFree (Next byte)) → IsFree (Headed Next)
 headed_free Next free a b r s one other e =
-    let apart : one.byte ∷ (one.back ++ r) ≡ other.byte ∷ (other.back ++ s) = ap (λ t. t ++ r) (sym one.split) ∙ e ∙ ap (λ t. t ++ s) other.split in
+    let apart : one.byte ∷ (one.back ++ r) ≡ other.byte ∷ (other.back ++ s) = ap (λ t. t ++ r) (sym one.split) ∙ e
+    ∙ ap (λ t. t ++ s) other.split in
     let same : one.byte ≡ other.byte = cc in
     let behind : one.back ++ r ≡ other.back ++ s = cc in
-    let backs : one.back ≡ other.back = free other.byte one.back other.back r s (subst (λ x. Next x one.back) same one.second) other.second behind in
+    let backs : one.back ≡ other.back =
+    free other.byte one.back other.back r s (subst (λ x. Next x one.back) same one.second) other.second behind in
     one.split ∙ ap (λ x. x ∷ one.back) same ∙ ap (λ t. other.byte ∷ t) backs ∙ sym other.split
 
 -- ---- texts that are longer than the bytes
@@ -239,7 +253,8 @@ left_of_short [] (a ∷ more) pos = refl
 left_of_short (b ∷ bytes) more pos = same_head b (bytes ++ more) bytes ∙ left_of_short bytes more pos
 
 -- bytes that are shorter than a text don't begin with it
-pub parts_from_longer : (text bytes : List ℕ) → length bytes < length text → (more : ℕ) × (left_at text bytes ≡ Some more) × (0 ≤ more)
+pub parts_from_longer : (text bytes : List ℕ) → length bytes < length text
+    → (more : ℕ) × (left_at text bytes ≡ Some more) × (0 ≤ more)
 parts_from_longer [] bytes lt = absurd (omega (arith, lt))
 parts_from_longer (a ∷ text) [] lt = (0, refl, omega arith)
 parts_from_longer (a ∷ text) (b ∷ bytes) lt = elim (cases_eq a b) [
@@ -258,7 +273,8 @@ least_none : (Text : List ℕ → Type 0) → IsOutside Text [] → (text : List
 least_none Text out [] is = absurd (outside_none Text [] out is)
 least_none Text out (a ∷ text) is = refl
 
-pub outside_end : (Text : List ℕ → Type 0) (bytes some : List ℕ) → bytes ≡ [] → IsOutside Text bytes → Text some → IsStuck Text bytes 0
+pub outside_end : (Text : List ℕ → Type 0) (bytes some : List ℕ) → bytes ≡ [] → IsOutside Text bytes → Text some
+    → IsStuck Text bytes 0
 outside_end Text bytes some nil out is =
     let outside : IsOutside Text [] = subst (IsOutside Text) nil out in
     subst (λ b. IsStuck Text b 0) (sym nil) (record {
@@ -268,13 +284,15 @@ outside_end Text bytes some nil out is =
       least = λ other its. (0, least_none Text outside other its, omega arith);
     })
 
-least_bad : (Text : List ℕ → Type 0) (byte : ℕ) (rest : List ℕ) → IsOutside Text (byte ∷ rest) → ((text : List ℕ) → Text (byte ∷ text) → ⊥)
+least_bad : (Text : List ℕ → Type 0) (byte : ℕ) (rest : List ℕ) → IsOutside Text (byte ∷ rest)
+    → ((text : List ℕ) → Text (byte ∷ text) → ⊥)
     → (text : List ℕ) → Text text → left_at text (byte ∷ rest) ≡ Some (suc (length rest))
 least_bad Text byte rest out not [] is = absurd (outside_none Text (byte ∷ rest) out is)
 least_bad Text byte rest out not (a ∷ text) is =
     other_head a byte text rest (λ same. not text (subst (λ x. Text (x ∷ text)) same is))
 
-pub outside_bad : (Text : List ℕ → Type 0) (byte : ℕ) (bytes rest some : List ℕ) → bytes ≡ byte ∷ rest → IsOutside Text bytes → Text some
+pub outside_bad : (Text : List ℕ → Type 0) (byte : ℕ) (bytes rest some : List ℕ) → bytes ≡ byte ∷ rest
+    → IsOutside Text bytes → Text some
     → ((text : List ℕ) → Text (byte ∷ text) → ⊥) → IsStuck Text bytes (length bytes)
 outside_bad Text byte bytes rest some head out is not =
     let outside : IsOutside Text (byte ∷ rest) = subst (IsOutside Text) head out in
@@ -296,8 +314,10 @@ least_on Text Next byte rest left out to s (a ∷ text) is = elim (cases_eq a by
   | inr other ↦ (suc (length rest), other_head a byte text rest other, omega (arith, stuck_within Next rest left s))
 ]
 
-pub outside_on : (Text Next : List ℕ → Type 0) (byte : ℕ) (bytes rest : List ℕ) (left : ℕ) → bytes ≡ byte ∷ rest → IsOutside Text bytes
-    → ((text : List ℕ) → Text (byte ∷ text) → Next text) → ((text : List ℕ) → Next text → Text (byte ∷ text)) → IsStuck Next rest left
+pub outside_on : (Text Next : List ℕ → Type 0) (byte : ℕ) (bytes rest : List ℕ) (left : ℕ) → bytes ≡ byte ∷ rest
+    → IsOutside Text bytes
+    → ((text : List ℕ) → Text (byte ∷ text) → Next text) → ((text : List ℕ) → Next text → Text (byte ∷ text))
+    → IsStuck Next rest left
     → IsStuck Text bytes left
 outside_on Text Next byte bytes rest left head out to from s =
     let outside : IsOutside Text (byte ∷ rest) = subst (IsOutside Text) head out in
@@ -308,7 +328,8 @@ outside_on Text Next byte bytes rest left head out to from s =
       least = least_on Text Next byte rest left outside to s;
     })
 
-pub outside_next : (Text Next : List ℕ → Type 0) (byte : ℕ) (bytes rest : List ℕ) → bytes ≡ byte ∷ rest → IsOutside Text bytes
+pub outside_next : (Text Next : List ℕ → Type 0) (byte : ℕ) (bytes rest : List ℕ) → bytes ≡ byte ∷ rest
+    → IsOutside Text bytes
     → ((text : List ℕ) → Next text → Text (byte ∷ text)) → IsOutside Next rest
 outside_next Text Next byte bytes rest head out from text behind is e =
     out (byte ∷ text) behind (from text is) (head ∙ ap (λ t. byte ∷ t) e)

@@ -30,14 +30,20 @@ AreTold all rows = AllByRecursion (λ row. value_of all row.0 ≡ Some row.1) ro
 
 told_more : (row : Key × Value) (rows more : Rows) → ArePast row.0 more → AreTold rows more → AreTold (row ∷ rows) more
 told_more row rows [] past told = tt
-told_more row rows (next ∷ more) past told =
-    (value_of-other next.0 row rows (ap is_eq (less_back row.0 next.0 past.0)) ∙ told.0, told_more row rows more past.1 told.1)
+told_more row rows (next ∷ more) past told = (
+  value_of-other next.0 row rows (ap is_eq (less_back row.0 next.0 past.0))
+      ∙ told.0,
+  told_more row rows more past.1 told.1,
+)
 
 -- sorted rows do
 pub all_told : (rows : Rows) → AreSorted rows → AreTold rows rows
 all_told [] sorted = tt
-all_told (row ∷ rows) sorted =
-    (value_of-first row.0 row rows (key_cmp_itself row.0), told_more row rows rows (past_first row rows sorted) (all_told rows (sorted_rest row rows sorted)))
+all_told (row ∷ rows) sorted = (
+  value_of-first row.0 row rows (key_cmp_itself row.0),
+  told_more row rows rows (past_first row rows sorted)
+      (all_told rows (sorted_rest row rows sorted)),
+)
 
 -- each of these rows has a value of its key's kind
 abbrev pub AreTaken : Rows → Type 0
@@ -54,16 +60,20 @@ all_taken all (row ∷ rows) good told =
 
 -- those of a source are among those of the metric
 pub costs_from : (net metric src : Name) (rows : Rows)
-    → filter (λ (c : Cost). same_name src c.source) (costs_within rows (span.CostsIn net metric)) ≡ costs_within rows (span.CostsFrom net metric src)
+    → filter (λ (c : Cost). same_name src c.source) (costs_within rows (span.CostsIn net metric))
+    ≡ costs_within rows (span.CostsFrom net metric src)
 costs_from net metric src [] = refl
 costs_from net metric src ((key.Cost of kind from to, v) ∷ rows) =
     by (same_name net of) (same_name metric kind) (same_name src from) refl refl refl v (costs_from net metric src rows)
   where
     by : (a b c : Bool) → same_name net of ≡ a → same_name metric kind ≡ b → same_name src from ≡ c → (v : Value)
-        → filter (λ (c : Cost). same_name src c.source) (costs_within rows (span.CostsIn net metric)) ≡ costs_within rows (span.CostsFrom net metric src)
-        → filter (λ (c : Cost). same_name src c.source) (costs_within ((key.Cost of kind from to, v) ∷ rows) (span.CostsIn net metric))
+        → filter (λ (c : Cost). same_name src c.source) (costs_within rows (span.CostsIn net metric))
+        ≡ costs_within rows (span.CostsFrom net metric src)
+        → filter (λ (c : Cost). same_name src c.source)
+        (costs_within ((key.Cost of kind from to, v) ∷ rows) (span.CostsIn net metric))
         ≡ costs_within ((key.Cost of kind from to, v) ∷ rows) (span.CostsFrom net metric src)
-    by true true true e f h (value.Num n) below = rw (e, f, h) (ap (λ (more : List Cost). record { source = from; destination = to; amount = n } ∷ more) below)
+    by true true true e f h (value.Num n) below =
+        rw (e, f, h) (ap (λ (more : List Cost). record { source = from; destination = to; amount = n } ∷ more) below)
     by true true false e f h (value.Num n) below = rw (e, f, h) below
     by true true true e f h value.Unit below = rw (e, f, h) below
     by true true false e f h value.Unit below = rw (e, f, h) below
@@ -77,13 +87,16 @@ costs_from net metric src (_ ∷ rows) = costs_from net metric src rows
 
 -- their sources are those of the map
 pub sources_given : (net metric : Name) (rows : Rows) → AreTaken rows
-    → map (λ (c : Cost). c.source) (costs_within rows (span.CostsIn net metric)) ≡ filter_map (source_in net metric) rows
+    → map (λ (c : Cost). c.source) (costs_within rows (span.CostsIn net metric))
+    ≡ filter_map (source_in net metric) rows
 sources_given net metric [] taken = refl
 sources_given net metric ((key.Cost of kind from to, v) ∷ rows) taken =
     by (same_name net of) (same_name metric kind) refl refl v taken.0 (sources_given net metric rows taken.1)
   where
-    by : (a b : Bool) → same_name net of ≡ a → same_name metric kind ≡ b → (v : Value) → Takes (key.Cost of kind from to) v
-        → map (λ (c : Cost). c.source) (costs_within rows (span.CostsIn net metric)) ≡ filter_map (source_in net metric) rows
+    by : (a b : Bool) → same_name net of ≡ a → same_name metric kind ≡ b → (v : Value)
+        → Takes (key.Cost of kind from to) v
+        → map (λ (c : Cost). c.source) (costs_within rows (span.CostsIn net metric))
+        ≡ filter_map (source_in net metric) rows
         → map (λ (c : Cost). c.source) (costs_within ((key.Cost of kind from to, v) ∷ rows) (span.CostsIn net metric))
         ≡ filter_map (source_in net metric) ((key.Cost of kind from to, v) ∷ rows)
     by true true e f (value.Num n) takes below = rw (e, f) (ap (λ (more : List Name). from ∷ more) below)
@@ -102,7 +115,8 @@ amounts_given net metric ((key.Cost of kind from to, v) ∷ rows) =
     by (same_name net of) (same_name metric kind) refl refl v (amounts_given net metric rows)
   where
     by : (a b : Bool) → same_name net of ≡ a → same_name metric kind ≡ b → (v : Value)
-        → map (λ (c : Cost). c.amount) (costs_within rows (span.CostsIn net metric)) ≡ filter_map (cost_in net metric) rows
+        → map (λ (c : Cost). c.amount) (costs_within rows (span.CostsIn net metric))
+        ≡ filter_map (cost_in net metric) rows
         → map (λ (c : Cost). c.amount) (costs_within ((key.Cost of kind from to, v) ∷ rows) (span.CostsIn net metric))
         ≡ filter_map (cost_in net metric) ((key.Cost of kind from to, v) ∷ rows)
     by true true e f (value.Num n) below = rw (e, f) (ap (λ (more : List ℕ). n ∷ more) below)
@@ -114,22 +128,32 @@ amounts_given net metric ((key.Cost of kind from to, v) ∷ rows) =
 amounts_given net metric (_ ∷ rows) = amounts_given net metric rows
 
 -- what is told of each destination of a source is told of its cost
-pub costs_told : (told_of : Option ℕ → Data) (net metric src : Name) (all rows : Rows) → AreTold all rows → AreTaken rows
-    → map {B = Name × Data} (λ (dst : Name). (dst, told_of (cost_of all net metric src dst))) (destinations_of rows net metric src)
-    ≡ map {B = Name × Data} (λ (c : Cost). (c.destination, told_of (Some c.amount))) (costs_within rows (span.CostsFrom net metric src))
+pub costs_told : (told_of : Option ℕ → Data) (net metric src : Name) (all rows : Rows)
+    → AreTold all rows → AreTaken rows
+    → map {B = Name × Data} (λ (dst : Name). (dst, told_of (cost_of all net metric src dst)))
+    (destinations_of rows net metric src)
+    ≡ map {B = Name × Data} (λ (c : Cost). (c.destination, told_of (Some c.amount)))
+    (costs_within rows (span.CostsFrom net metric src))
 costs_told told_of net metric src all [] told taken = refl
 costs_told told_of net metric src all ((key.Cost of kind from to, v) ∷ rows) told taken =
-    by (same_name net of) (same_name metric kind) (same_name src from) refl refl refl v taken.0 told.0 (costs_told told_of net metric src all rows told.1 taken.1)
+    by (same_name net of) (same_name metric kind) (same_name src from) refl refl refl v taken.0
+    told.0 (costs_told told_of net metric src all rows told.1 taken.1)
   where
-    by : (a b c : Bool) → same_name net of ≡ a → same_name metric kind ≡ b → same_name src from ≡ c → (v : Value) → Takes (key.Cost of kind from to) v
+    by : (a b c : Bool) → same_name net of ≡ a → same_name metric kind ≡ b → same_name src from ≡ c → (v : Value)
+        → Takes (key.Cost of kind from to) v
         → value_of all (key.Cost of kind from to) ≡ Some v
-        → map {B = Name × Data} (λ (dst : Name). (dst, told_of (cost_of all net metric src dst))) (destinations_of rows net metric src)
-        ≡ map {B = Name × Data} (λ (c : Cost). (c.destination, told_of (Some c.amount))) (costs_within rows (span.CostsFrom net metric src))
-        → map {B = Name × Data} (λ (dst : Name). (dst, told_of (cost_of all net metric src dst))) (destinations_of ((key.Cost of kind from to, v) ∷ rows) net metric src)
-        ≡ map {B = Name × Data} (λ (c : Cost). (c.destination, told_of (Some c.amount))) (costs_within ((key.Cost of kind from to, v) ∷ rows) (span.CostsFrom net metric src))
+        → map {B = Name × Data} (λ (dst : Name). (dst, told_of (cost_of all net metric src dst)))
+        (destinations_of rows net metric src)
+        ≡ map {B = Name × Data} (λ (c : Cost). (c.destination, told_of (Some c.amount)))
+        (costs_within rows (span.CostsFrom net metric src))
+        → map {B = Name × Data} (λ (dst : Name). (dst, told_of (cost_of all net metric src dst)))
+        (destinations_of ((key.Cost of kind from to, v) ∷ rows) net metric src)
+        ≡ map {B = Name × Data} (λ (c : Cost). (c.destination, told_of (Some c.amount)))
+        (costs_within ((key.Cost of kind from to, v) ∷ rows) (span.CostsFrom net metric src))
     by true true true e f h (value.Num n) takes is below =
         let here : value_of all (key.Cost net metric src to) ≡ Some (value.Num n) =
-        ap (value_of all) (λ i. key.Cost (one_name net of e i) (one_name metric kind f i) (one_name src from h i) to) ∙ is in
+        ap (value_of all) (λ i. key.Cost (one_name net of e i) (one_name metric kind f i) (one_name src from h i) to)
+        ∙ is in
         let cost : told_of (cost_of all net metric src to) ≡ told_of (Some n) = ap (λ o. told_of (number_at o)) here in
         rw (e, f, h) (rw cost (ap (λ (more : List (Name × Data)). (to, told_of (Some n)) ∷ more) below))
     by true true true e f h value.Unit takes is below = absurd takes

@@ -1,6 +1,7 @@
 -- Cost maps of rows that differ by keys differ at the places of these keys alone.
 use Rattle.std.proofs.Common.{◌≡◌, ℕ, refl, ap, sym, ◌∙◌}
-use Rattle.std.specs.Prelude.{Bool, true, false, ◌&&◌, ◌++◌, List, [], ◌∷◌, map, Option, Some, None, option_map, Ok, codes, decimal}
+use Rattle.std.specs.Prelude.{Bool, true, false, ◌&&◌, ◌++◌, List, [], ◌∷◌, map, Option, Some, None, option_map, Ok}
+use Rattle.std.specs.Prelude.{codes, decimal}
 use Rattle.std.specs.BTreeMap.{is_at}
 use Rattle.std.specs.List.{list_any}
 use Rattle.serde_json.specs.Data.{Data, number, string, unsigned}
@@ -35,14 +36,16 @@ use Rattle.cost_docs.proofs.StandsLemmas.{has_any, member_is, stands_where}
 pub nowhere : OtherKeysTouchNowhere
 nowhere net metric (key.Cost of kind src dst) none = by (same_name net of && same_name metric kind) refl
   where
-    by : (b : Bool) → (same_name net of && same_name metric kind) ≡ b → cost_place net metric (key.Cost of kind src dst) ≡ place.Nowhere
+    by : (b : Bool) → (same_name net of && same_name metric kind) ≡ b
+        → cost_place net metric (key.Cost of kind src dst) ≡ place.Nowhere
     by true e = let touched : touches (resource.Cost net metric) (key.Cost of kind src dst) ≡ true = rw e refl in cc
     by false e = rw e refl
 nowhere net metric (key.Seq (resource.Net of)) none = rw none refl
 nowhere net metric _ none = refl
 
 -- so a key of a place that is tested for touches the map
-touching : (net metric : Name) (touched : Place → Bool) (at : Key) → touched place.Nowhere ≡ false → touched (cost_place net metric at) ≡ true
+touching : (net metric : Name) (touched : Place → Bool) (at : Key) → touched place.Nowhere ≡ false
+    → touched (cost_place net metric at) ≡ true
     → touches (resource.Cost net metric) at ≡ true
 touching net metric touched at none is = by (touches (resource.Cost net metric) at) refl
   where
@@ -51,7 +54,8 @@ touching net metric touched at none is = by (touches (resource.Cost net metric) 
     by false e = let both : touched place.Nowhere ≡ true = rw (nowhere net metric at e) at is in cc
 
 -- a key whose place isn't among those of keys has the same value
-same_value : (net metric : Name) (before later : Rows) (keys : List Key) (touched : Place → Bool) → DifferBy keys before later (resource.Cost net metric)
+same_value : (net metric : Name) (before later : Rows) (keys : List Key) (touched : Place → Bool)
+    → DifferBy keys before later (resource.Cost net metric)
     → touched place.Nowhere ≡ false → list_any touched (map (cost_place net metric) keys) ≡ false
     → (at : Key) → touched (cost_place net metric at) ≡ true → value_of before at ≡ value_of later at
 same_value net metric before later keys touched differ no_touch none at is =
@@ -67,41 +71,53 @@ tags_with net tag = array_of (object_of ((codes "resource-id", string net) ∷ (
 -- the meta with this tag
 abbrev meta_with : Name → Name → Name → Data
 meta_with net metric tag =
-    object_of ((codes "cost-type", cost_type metric (codes "numerical")) ∷ (codes "dependent-vtags", tags_with net tag) ∷ [])
+    object_of ((codes "cost-type", cost_type metric (codes "numerical"))
+    ∷ (codes "dependent-vtags", tags_with net tag) ∷ [])
 
 -- a meta with another tag
-meta_tagged : (net metric tag next : Name) → changed_at cost_shape.path (replace (tags_with net next)) (Some (meta_with net metric tag)) ≡ Ok (Some (meta_with net metric next))
+meta_tagged : (net metric tag next : Name)
+    → changed_at cost_shape.path (replace (tags_with net next)) (Some (meta_with net metric tag))
+    ≡ Ok (Some (meta_with net metric next))
 unfolding with_member
 meta_tagged net metric tag next = refl
 
 -- the tag stays where no key touches it
-same_tag : (net metric : Name) (before later : Rows) (keys : List Key) → DifferBy keys before later (resource.Cost net metric)
-    → list_any touches_meta (map (cost_place net metric) keys) ≡ false → tag_of before (resource.Net net) ≡ tag_of later (resource.Net net)
+same_tag : (net metric : Name) (before later : Rows) (keys : List Key)
+    → DifferBy keys before later (resource.Cost net metric)
+    → list_any touches_meta (map (cost_place net metric) keys) ≡ false
+    → tag_of before (resource.Net net) ≡ tag_of later (resource.Net net)
 same_tag net metric before later keys differ none =
-    let version = same_value net metric before later keys touches_meta differ refl none (key.Seq (resource.Net net)) (rw (same_name_itself net) refl) in
+    let version = same_value net metric before later keys touches_meta differ refl none (key.Seq (resource.Net net))
+    (rw (same_name_itself net) refl) in
     λ i. text_in (differ.epoch i) ++ codes "-" ++ decimal (number_in (version i))
 
 -- ---- the groups
 
 -- a destination is at its key's place
-elsewhere : (net metric src : Name) (row : Key × Value) → touches_group src (cost_place net metric row.0) ≡ false → destination_in net metric src row ≡ None
-elsewhere net metric src (key.Cost of kind from dst, v) none = by (same_name net of) (same_name metric kind) (same_name src from) refl refl refl
+elsewhere : (net metric src : Name) (row : Key × Value) → touches_group src (cost_place net metric row.0) ≡ false
+    → destination_in net metric src row ≡ None
+elsewhere net metric src (key.Cost of kind from dst, v) none =
+    by (same_name net of) (same_name metric kind) (same_name src from) refl refl refl
   where
     by : (a b c : Bool) → same_name net of ≡ a → same_name metric kind ≡ b → same_name src from ≡ c
         → destination_in net metric src (key.Cost of kind from dst, v) ≡ None
-    by true true true e f h = let is : touches_group src (cost_place net metric (key.Cost of kind from dst)) ≡ true = rw (e, f, h) refl in cc
+    by true true true e f h = let is : touches_group src (cost_place net metric (key.Cost of kind from dst)) ≡ true =
+        rw (e, f, h) refl in cc
     by true true false e f h = rw (e, f, h) refl
     by true false c e f h = rw (e, f) refl
     by false b c e f h = rw e refl
 elsewhere net metric src _ none = refl
 
 -- the destinations of a source stay where no key touches its group
-same_destinations : (net metric src : Name) (before later : Rows) (keys : List Key) → DifferBy keys before later (resource.Cost net metric)
+same_destinations : (net metric src : Name) (before later : Rows) (keys : List Key)
+    → DifferBy keys before later (resource.Cost net metric)
     → list_any (touches_group src) (map (cost_place net metric) keys) ≡ false
     → destinations_of before net metric src ≡ destinations_of later net metric src
 same_destinations net metric src before later keys differ none =
-    same_listed (destination_in net metric src) (λ at. touches_group src (cost_place net metric at)) (elsewhere net metric src) before later
-    differ.good.sorted differ.good_behind.sorted (same_value net metric before later keys (touches_group src) differ refl none)
+    same_listed (destination_in net metric src) (λ at. touches_group src (cost_place net metric at))
+    (elsewhere net metric src) before later
+    differ.good.sorted differ.good_behind.sorted (same_value net metric before later keys (touches_group src)
+    differ refl none)
 
 -- a cost is a number
 plain_cost : (cost : Option ℕ) (d : Data) → option_map (λ n. number (unsigned n)) cost ≡ Some d → is_plain d ≡ true
@@ -126,5 +142,6 @@ differ_at net metric before later keys differ = record {
       (rw (same_name_itself net, same_name_itself metric, same_name_itself g, same_name_itself m) refl))
       ∙ sym (member_is net metric later g m differ.good_behind));
   plain_version = refl;
-  plain = λ g m d is. plain_cost (number_at (value_of later (key.Cost net metric g m))) d (sym (member_is net metric later g m differ.good_behind) ∙ is);
+  plain = λ g m d is. plain_cost (number_at (value_of later (key.Cost net metric g m)))
+      d (sym (member_is net metric later g m differ.good_behind) ∙ is);
 }

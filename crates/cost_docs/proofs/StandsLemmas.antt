@@ -1,4 +1,5 @@
--- Which groups stand in a cost map: those of the sources that have destinations; and which members: those of pairs that have costs.
+-- Which groups stand in a cost map: those of the sources that have destinations; and which members: those of pairs that
+-- have costs.
 use Rattle.std.proofs.Common.{◌≡◌, refl, ap, sym, ◌∙◌}
 use Rattle.std.specs.Prelude.{Bool, true, false, ◌&&◌, List, [], ◌∷◌, Option, Some, None, is_some, option_map}
 use Rattle.std.specs.BTreeMap.{is_at}
@@ -26,13 +27,16 @@ has_any [] = false
 has_any (name ∷ names) = true
 
 -- a source has a cost where it has a destination
-sources_where : (net metric src : Name) (rows : Rows) → list_any (same_name src) (filter_map (source_in net metric) rows) ≡ has_any (destinations_of rows net metric src)
+sources_where : (net metric src : Name) (rows : Rows)
+    → list_any (same_name src) (filter_map (source_in net metric) rows) ≡ has_any (destinations_of rows net metric src)
 sources_where net metric src [] = refl
 sources_where net metric src ((key.Cost of kind from dst, v) ∷ rows) =
-    by (same_name net of) (same_name metric kind) (same_name src from) refl refl refl (sources_where net metric src rows)
+    by (same_name net of) (same_name metric kind) (same_name src from) refl refl
+    refl (sources_where net metric src rows)
   where
     by : (a b c : Bool) → same_name net of ≡ a → same_name metric kind ≡ b → same_name src from ≡ c
-        → list_any (same_name src) (filter_map (source_in net metric) rows) ≡ has_any (destinations_of rows net metric src)
+        → list_any (same_name src) (filter_map (source_in net metric) rows)
+        ≡ has_any (destinations_of rows net metric src)
         → list_any (same_name src) (filter_map (source_in net metric) ((key.Cost of kind from dst, v) ∷ rows))
         ≡ has_any (destinations_of ((key.Cost of kind from dst, v) ∷ rows) net metric src)
     by true true true e f h below = rw (e, f, h) refl
@@ -42,35 +46,52 @@ sources_where net metric src ((key.Cost of kind from dst, v) ∷ rows) =
 sources_where net metric src (_ ∷ rows) = sources_where net metric src rows
 
 -- a group stands where its source has a destination
-pub stands_where : (net metric src : Name) (rows : Rows) → stands (cost_face net metric rows) src ≡ has_any (destinations_of rows net metric src)
-stands_where net metric src rows = any-set_of src (filter_map (source_in net metric) rows) ∙ sources_where net metric src rows
+pub stands_where : (net metric src : Name) (rows : Rows)
+    → stands (cost_face net metric rows) src ≡ has_any (destinations_of rows net metric src)
+stands_where net metric src rows = any-set_of src (filter_map (source_in net metric) rows)
+    ∙ sources_where net metric src rows
 
 -- ---- the members of a group
 
 -- the key of the cost of a pair
 abbrev is_cost_key : Name → Name → Name → Name → Key → Bool
-is_cost_key net metric src dst (key.Cost of kind from to) = same_name net of && (same_name metric kind && (same_name src from && same_name dst to))
+is_cost_key net metric src dst (key.Cost of kind from to) =
+    same_name net of && (same_name metric kind && (same_name src from && same_name dst to))
 is_cost_key net metric src dst _ = false
 
 -- it is the one that is looked for
-cost_key : (net metric src dst : Name) (at : Key) → is_at (key_cmp (key.Cost net metric src dst)) at ≡ is_cost_key net metric src dst at
+cost_key : (net metric src dst : Name) (at : Key)
+    → is_at (key_cmp (key.Cost net metric src dst)) at ≡ is_cost_key net metric src dst at
 unfolding key_cmp
 cost_key net metric src dst (key.Cost of kind from to) =
     both_ties (name_cmp net of) _
-    ∙ rw (both_ties (name_cmp metric kind) _, both_ties (name_cmp src from) (name_cmp dst to), same_name_ties net of, same_name_ties metric kind, same_name_ties src from, same_name_ties dst to) refl
+    ∙ rw (
+      both_ties (name_cmp metric kind) _,
+      both_ties (name_cmp src from) (name_cmp dst to),
+      same_name_ties net of,
+      same_name_ties metric kind,
+      same_name_ties src from,
+      same_name_ties dst to,
+    ) refl
 cost_key net metric src dst _ = refl
 
 -- a destination is listed where the pair has a row
-pub listed_where : (net metric src dst : Name) (rows : Rows) → list_any (same_name dst) (destinations_of rows net metric src) ≡ has_row rows (key.Cost net metric src dst)
-listed_where net metric src dst rows = among rows ∙ ap (λ test. is_some (lookup test rows)) (λ i at. sym (cost_key net metric src dst at) i)
+pub listed_where : (net metric src dst : Name) (rows : Rows)
+    → list_any (same_name dst) (destinations_of rows net metric src) ≡ has_row rows (key.Cost net metric src dst)
+listed_where net metric src dst rows =
+    among rows ∙ ap (λ test. is_some (lookup test rows)) (λ i at. sym (cost_key net metric src dst at) i)
   where
-    among : (rows : Rows) → list_any (same_name dst) (destinations_of rows net metric src) ≡ is_some (lookup (is_cost_key net metric src dst) rows)
+    among : (rows : Rows) → list_any (same_name dst) (destinations_of rows net metric src)
+        ≡ is_some (lookup (is_cost_key net metric src dst) rows)
     among [] = refl
     among ((key.Cost of kind from to, v) ∷ rows) =
-        by (same_name net of) (same_name metric kind) (same_name src from) (same_name dst to) refl refl refl refl (among rows)
+        by (same_name net of) (same_name metric kind) (same_name src from) (same_name dst to) refl refl refl
+        refl (among rows)
       where
-        by : (a b c d : Bool) → same_name net of ≡ a → same_name metric kind ≡ b → same_name src from ≡ c → same_name dst to ≡ d
-            → list_any (same_name dst) (destinations_of rows net metric src) ≡ is_some (lookup (is_cost_key net metric src dst) rows)
+        by : (a b c d : Bool) → same_name net of ≡ a → same_name metric kind ≡ b → same_name src from ≡ c
+            → same_name dst to ≡ d
+            → list_any (same_name dst) (destinations_of rows net metric src)
+            ≡ is_some (lookup (is_cost_key net metric src dst) rows)
             → list_any (same_name dst) (destinations_of ((key.Cost of kind from to, v) ∷ rows) net metric src)
             ≡ is_some (lookup (is_cost_key net metric src dst) ((key.Cost of kind from to, v) ∷ rows))
         by true true true true e f h k below = rw (e, f, h, k) refl
@@ -95,14 +116,18 @@ a_number net metric src dst (value.Names names) takes = absurd takes
 
 -- a member of the map is the cost of its pair
 pub member_is : (net metric : Name) (rows : Rows) (src dst : Name) → AreGood rows
-    → member_in (cost_face net metric rows) src dst ≡ option_map (λ n. number (unsigned n)) (cost_of rows net metric src dst)
-member_is net metric rows src dst good = by (value_of rows (key.Cost net metric src dst)) refl (stands (cost_face net metric rows) src) refl
+    → member_in (cost_face net metric rows) src dst
+    ≡ option_map (λ n. number (unsigned n)) (cost_of rows net metric src dst)
+member_is net metric rows src dst good =
+    by (value_of rows (key.Cost net metric src dst)) refl (stands (cost_face net metric rows) src) refl
   where
     listed : list_any (same_name dst) (destinations_of rows net metric src) ≡ has_row rows (key.Cost net metric src dst)
     listed = listed_where net metric src dst rows
 
-    by : (o : Option Value) → value_of rows (key.Cost net metric src dst) ≡ o → (s : Bool) → stands (cost_face net metric rows) src ≡ s
-        → member_in (cost_face net metric rows) src dst ≡ option_map (λ n. number (unsigned n)) (cost_of rows net metric src dst)
+    by : (o : Option Value) → value_of rows (key.Cost net metric src dst) ≡ o → (s : Bool)
+        → stands (cost_face net metric rows) src ≡ s
+        → member_in (cost_face net metric rows) src dst
+        ≡ option_map (λ n. number (unsigned n)) (cost_of rows net metric src dst)
     by None e true h = rw (h, listed, e) refl
     by None e false h = rw (h, e) refl
     by (Some v) e true h =
@@ -110,5 +135,6 @@ member_is net metric rows src dst good = by (value_of rows (key.Cost net metric 
         rw (h, listed, e) (a_number net metric src dst v fits.1)
     by (Some v) e false h =
         let some : list_any (same_name dst) (destinations_of rows net metric src) ≡ true = listed ∙ ap is_some e in
-        let stood : stands (cost_face net metric rows) src ≡ true = stands_where net metric src rows ∙ any_listed (same_name dst) (destinations_of rows net metric src) some in
+        let stood : stands (cost_face net metric rows) src ≡ true = stands_where net metric src rows
+        ∙ any_listed (same_name dst) (destinations_of rows net metric src) some in
         cc

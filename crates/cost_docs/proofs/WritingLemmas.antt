@@ -29,39 +29,49 @@ abbrev groups_left : Option Name → List Gathered → List Token
 groups_left None groups = group_tokens groups
 groups_left (Some src) [] = end_object ∷ group_tokens []
 groups_left (Some src) (group ∷ groups) =
-    cond (same_name src group.0) (members_tokens (members_outline group.1) ++ group_tokens groups) (end_object ∷ group_tokens (group ∷ groups))
+    cond (same_name src group.0) (members_tokens (members_outline group.1) ++ group_tokens groups)
+    (end_object ∷ group_tokens (group ∷ groups))
 
 -- a cost that is written, before groups that are left
-cost_before : (current : Option Name) (c : Cost) (groups : List Gathered) → cost_tokens current (Some c) ++ groups_left (Some c.source) groups ≡ groups_left current (with_cost c groups)
+cost_before : (current : Option Name) (c : Cost) (groups : List Gathered)
+    → cost_tokens current (Some c) ++ groups_left (Some c.source) groups ≡ groups_left current (with_cost c groups)
 cost_before None c [] = refl
 cost_before None c (group ∷ groups) = by (same_name c.source group.0) refl
   where
-    by : (b : Bool) → same_name c.source group.0 ≡ b → cost_tokens None (Some c) ++ groups_left (Some c.source) (group ∷ groups) ≡ groups_left None (with_cost c (group ∷ groups))
+    by : (b : Bool) → same_name c.source group.0 ≡ b
+        → cost_tokens None (Some c) ++ groups_left (Some c.source) (group ∷ groups)
+        ≡ groups_left None (with_cost c (group ∷ groups))
     by true e = rw e refl
     by false e = rw e refl
 cost_before (Some src) c [] = by (same_name src c.source) refl
   where
-    by : (b : Bool) → same_name src c.source ≡ b → cost_tokens (Some src) (Some c) ++ groups_left (Some c.source) [] ≡ groups_left (Some src) (with_cost c [])
+    by : (b : Bool) → same_name src c.source ≡ b
+        → cost_tokens (Some src) (Some c) ++ groups_left (Some c.source) [] ≡ groups_left (Some src) (with_cost c [])
     by true e = rw e refl
     by false e = rw e refl
 cost_before (Some src) c (group ∷ groups) = by (same_name src c.source) (same_name c.source group.0) refl refl
   where
     by : (a b : Bool) → same_name src c.source ≡ a → same_name c.source group.0 ≡ b
-        → cost_tokens (Some src) (Some c) ++ groups_left (Some c.source) (group ∷ groups) ≡ groups_left (Some src) (with_cost c (group ∷ groups))
+        → cost_tokens (Some src) (Some c) ++ groups_left (Some c.source) (group ∷ groups)
+        ≡ groups_left (Some src) (with_cost c (group ∷ groups))
     by true true e f = rw (e, f) (rw e refl)
     by true false e f = rw (e, f) (rw e refl)
     by false true e f = rw (e, f) (rw e refl)
     by false false e f = rw (e, f) (rw e refl)
 
 -- the costs that are left make the groups that are left
-costs_make : (current : Option Name) (costs : List Cost) → tokens_left current costs ≡ groups_left current (gathered costs)
+costs_make : (current : Option Name) (costs : List Cost)
+    → tokens_left current costs ≡ groups_left current (gathered costs)
 costs_make None [] = refl
 costs_make (Some src) [] = refl
-costs_make current (c ∷ costs) = ap (λ ts. cost_tokens current (Some c) ++ ts) (costs_make (Some c.source) costs) ∙ cost_before current c (gathered costs)
+costs_make current (c ∷ costs) = ap (λ ts. cost_tokens current (Some c) ++ ts) (costs_make (Some c.source) costs)
+    ∙ cost_before current c (gathered costs)
 
 -- behind the last cost the end of its group is written, and all groups are
-pub all_written : (net metric : Name) (rows : Rows) (left : List Cost) (current : Option Name) (old mid new : Written) → AreGood rows → left ≡ []
-    → mid.tokens ++ tokens_left current left ≡ old.tokens ++ tokens_left None (costs_within rows (span.CostsIn net metric)) → mid.before ≡ old.before
+pub all_written : (net metric : Name) (rows : Rows) (left : List Cost) (current : Option Name) (old mid new : Written)
+    → AreGood rows → left ≡ []
+    → mid.tokens ++ tokens_left current left
+    ≡ old.tokens ++ tokens_left None (costs_within rows (span.CostsIn net metric)) → mid.before ≡ old.before
     → AddsTokens (end_tokens current) mid new → AddsMembers (groups_of rows net metric) old new
 all_written net metric rows left current old mid new good none written same ended =
     record {

@@ -1,22 +1,28 @@
 -- What a tree prints to reads as the constraint that it stands for.
-use Rattle.std.proofs.Common.{◌≡◌, ◌∙◌, ℕ, ◌+◌, ◌<◌, ◌≤◌, true, List, [], ◌∷◌, ◌++◌, length, Option, Some, None, IsTrue, append_assoc, refl, sym, ap, arith}
+use Rattle.std.proofs.Common.{◌≡◌, ◌∙◌, ℕ, ◌+◌, ◌<◌, ◌≤◌, true, List, [], ◌∷◌, ◌++◌, length, Option, Some, None, IsTrue}
+use Rattle.std.proofs.Common.{append_assoc, refl, sym, ap, arith}
 use Rattle.std.specs.List.{list_all}
 use Rattle.std.specs.Char.{is_ascii_digit}
 use Rattle.std.proofs.lemmas.Bool.{and_parts, cond-true, cond-false, lt-ltb}
 use Rattle.std.specs.Option.{option_map}
-use Rattle.cost_rule.specs.Grammar.{AreBlanks, AreDigits, AreInForm, IndexPart, IsFraction, IsIndex, Parts, Spells, constraint_of, fraction_text, index_text, is_blank, millionths_of, number_of, printed, word}
+use Rattle.cost_rule.specs.Grammar.{AreBlanks, AreDigits, AreInForm, IndexPart, IsFraction, IsIndex, Parts, Spells}
+use Rattle.cost_rule.specs.Grammar.{constraint_of, fraction_text, index_text, is_blank, millionths_of, number_of}
+use Rattle.cost_rule.specs.Grammar.{printed, word}
 use Rattle.cost_rule.specs.Stages.{finish, more, no_digits, pushed}
 use Rattle.cost_rule.specs.declared.constraint.Constraint.{Constraint}
 use Rattle.cost_rule.specs.declared.constraint.Relation.{Relation}
 use Rattle.cost_rule.specs.declared.constraint.Relation.TheVariants.{Gt, Lt, Ge, Le, Eq}
 use Rattle.cost_rule.specs.declared.digits.Digits.{Digits}
-use Rattle.cost_rule.specs.declared.stage.Stage.TheVariants.{Start, Bracket, Index, Closed, Spaced, Related, Apart, Whole, Point, Fraction}
-use Rattle.cost_rule.proofs.DigitLemmas.{digit-blank, digit-bracket, digit-point, extended, extended-count, extended-number}
+use Rattle.cost_rule.specs.declared.stage.Stage.TheVariants.{Start, Bracket, Index, Closed, Spaced, Related, Apart}
+use Rattle.cost_rule.specs.declared.stage.Stage.TheVariants.{Whole, Point, Fraction}
+use Rattle.cost_rule.proofs.DigitLemmas.{digit-blank, digit-bracket, digit-point, extended, extended-count}
+use Rattle.cost_rule.proofs.DigitLemmas.{extended-number}
 use Rattle.cost_rule.proofs.Reading.{read, read-cons, read-nil}
 
 -- the constraint of these parts
 abbrev pub made : Option ℕ → Relation → ℕ → Option (List ℕ) → Constraint
-made index relation whole fraction = record { index = index; relation = relation; millionths = millionths_of whole fraction }
+made index relation whole fraction =
+    record { index = index; relation = relation; millionths = millionths_of whole fraction }
 
 -- a digit is taken where there is room
 pub more-digit : (most : ℕ) (digits : Digits) (byte : ℕ) → is_ascii_digit byte ≡ true → digits.count < most
@@ -37,7 +43,8 @@ read_fraction index relation whole digits (byte ∷ text) all few =
 
 -- the constraint of a fraction's digits
 pub finish-fraction : (index : Option ℕ) (relation : Relation) (whole : ℕ) (digits : List ℕ)
-    → finish (Fraction index relation whole (extended no_digits digits)) ≡ Some (made index relation whole (Some digits))
+    → finish (Fraction index relation whole (extended no_digits digits))
+    ≡ Some (made index relation whole (Some digits))
 finish-fraction index relation whole digits =
     let count : (extended no_digits digits).count ≡ length digits = omega (arith, extended-count no_digits digits) in
     let number : (extended no_digits digits).number ≡ number_of digits = extended-number no_digits digits in
@@ -71,18 +78,22 @@ read_whole index relation digits [] fraction all few are = read_end index relati
 read_whole index relation digits (byte ∷ text) fraction all few are =
     let parts = and_parts (is_ascii_digit byte) (list_all is_ascii_digit text) all in
     read-cons _ (Whole index relation (pushed digits byte)) byte (text ++ fraction_text fraction)
-    (cond-false _ _ _ (digit-point byte parts.0) ∙ ap (option_map (Whole index relation)) (more-digit 16 digits byte parts.0 (omega arith)))
+    (cond-false _ _ _ (digit-point byte parts.0)
+    ∙ ap (option_map (Whole index relation)) (more-digit 16 digits byte parts.0 (omega arith)))
     ∙ read_whole index relation (pushed digits byte) text fraction parts.1 (omega arith) are
 
 -- the bound, after the first blank
-read_bound : (index : Option ℕ) (relation : Relation) (whole : List ℕ) (fraction : Option (List ℕ)) → AreDigits 16 whole → IsFraction fraction
-    → read (Apart index relation) (whole ++ fraction_text fraction) ≡ Some (made index relation (number_of whole) fraction)
+read_bound : (index : Option ℕ) (relation : Relation) (whole : List ℕ) (fraction : Option (List ℕ)) → AreDigits 16 whole
+    → IsFraction fraction
+    → read (Apart index relation) (whole ++ fraction_text fraction)
+    ≡ Some (made index relation (number_of whole) fraction)
 read_bound index relation [] fraction are is = absurd (omega (arith, are.some))
 read_bound index relation (byte ∷ text) fraction are is =
     let parts = and_parts (is_ascii_digit byte) (list_all is_ascii_digit text) are.digits in
     let few : 1 + length text ≤ 16 = omega (arith, are.few) in
     read-cons _ (Whole index relation (pushed no_digits byte)) byte (text ++ fraction_text fraction)
-    (cond-false _ _ _ (digit-blank byte parts.0) ∙ ap (option_map (Whole index relation)) (more-digit 16 no_digits byte parts.0 (omega arith)))
+    (cond-false _ _ _ (digit-blank byte parts.0)
+    ∙ ap (option_map (Whole index relation)) (more-digit 16 no_digits byte parts.0 (omega arith)))
     ∙ read_whole index relation (pushed no_digits byte) text fraction parts.1 (omega arith) is
     ∙ ap (λ number. Some (made index relation number fraction)) (extended-number no_digits (byte ∷ text))
 
@@ -120,7 +131,8 @@ read_closed index (byte ∷ blanks) rest are =
     ∙ read_spaced index blanks rest parts.1
 
 -- the word of a relation, at the beginning or after an index
-read_word : (relation : Relation) (rest : List ℕ) → read Start (word relation ++ rest) ≡ read (Related None relation) rest
+read_word : (relation : Relation) (rest : List ℕ)
+    → read Start (word relation ++ rest) ≡ read (Related None relation) rest
 unfolding read
 read_word Gt rest = refl
 read_word Lt rest = refl
@@ -138,16 +150,19 @@ read_spaced_word index Le rest = refl
 read_spaced_word index Eq rest = refl
 
 -- the digits of an index
-read_index : (digits : Digits) (text rest : List ℕ) → IsTrue (list_all is_ascii_digit text) → digits.count + length text ≤ 2
+read_index : (digits : Digits) (text rest : List ℕ) → IsTrue (list_all is_ascii_digit text)
+    → digits.count + length text ≤ 2
     → read (Index digits) (text ++ 93 ∷ rest) ≡ read (Closed (extended digits text).number) rest
 read_index digits [] rest all few = read-cons _ (Closed digits.number) 93 rest refl
 read_index digits (byte ∷ text) rest all few =
     let parts = and_parts (is_ascii_digit byte) (list_all is_ascii_digit text) all in
     read-cons _ (Index (pushed digits byte)) byte (text ++ 93 ∷ rest)
-    (cond-false _ _ _ (digit-bracket byte parts.0) ∙ ap (option_map Index) (more-digit 2 digits byte parts.0 (omega arith)))
+    (cond-false _ _ _ (digit-bracket byte parts.0)
+    ∙ ap (option_map Index) (more-digit 2 digits byte parts.0 (omega arith)))
     ∙ read_index (pushed digits byte) text rest parts.1 (omega arith)
 
-read_bracket : (text rest : List ℕ) → AreDigits 2 text → read Bracket (text ++ 93 ∷ rest) ≡ read (Closed (number_of text)) rest
+read_bracket : (text rest : List ℕ) → AreDigits 2 text
+    → read Bracket (text ++ 93 ∷ rest) ≡ read (Closed (number_of text)) rest
 read_bracket [] rest are = absurd (omega (arith, are.some))
 read_bracket (byte ∷ text) rest are =
     let parts = and_parts (is_ascii_digit byte) (list_all is_ascii_digit text) are.digits in
@@ -159,7 +174,8 @@ read_bracket (byte ∷ text) rest are =
 
 -- an index, or none, and the word
 read_front : (index : Option IndexPart) (relation : Relation) (rest : List ℕ) → IsIndex index
-    → read Start (index_text index ++ (word relation ++ rest)) ≡ read (Related (option_map (λ part. number_of part.digits) index) relation) rest
+    → read Start (index_text index ++ (word relation ++ rest))
+    ≡ read (Related (option_map (λ part. number_of part.digits) index) relation) rest
 read_front None relation rest is = read_word relation rest
 read_front (Some part) relation rest is =
     read-cons Start Bracket 91 _ refl
@@ -176,6 +192,8 @@ read_printed parts are =
     ∙ read_bound _ parts.relation parts.whole parts.fraction are.whole are.fraction
 
 -- what a text spells is what it reads as
-pub read-spelled : (text : List ℕ) (constraint : Constraint) → Spells text constraint → read Start text ≡ Some constraint
+pub read-spelled : (text : List ℕ) (constraint : Constraint) → Spells text constraint
+    → read Start text ≡ Some constraint
 read-spelled text constraint spelled =
-    ap (read Start) (sym spelled.prints) ∙ read_printed spelled.parts spelled.in_form ∙ ap (λ value. Some value) spelled.value
+    ap (read Start) (sym spelled.prints) ∙ read_printed spelled.parts spelled.in_form
+    ∙ ap (λ value. Some value) spelled.value

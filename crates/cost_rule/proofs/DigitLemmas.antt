@@ -22,11 +22,13 @@ extended digits (byte ∷ more) = extended (pushed digits byte) more
 pub extended-count : (digits : Digits) (more : List ℕ) → (extended digits more).count ≡ digits.count + length more
 extended-count digits [] = omega arith
 extended-count digits (byte ∷ more) =
-    let rest : (extended (pushed digits byte) more).count ≡ digits.count + 1 + length more = extended-count (pushed digits byte) more in
+    let rest : (extended (pushed digits byte) more).count ≡ digits.count + 1 + length more =
+    extended-count (pushed digits byte) more in
     omega arith
 
 -- their number
-pub extended-number : (digits : Digits) (more : List ℕ) → (extended digits more).number ≡ number_after digits.number more
+pub extended-number : (digits : Digits) (more : List ℕ)
+    → (extended digits more).number ≡ number_after digits.number more
 extended-number digits [] = refl
 extended-number digits (byte ∷ more) = extended-number (pushed digits byte) more
 

@@ -1,5 +1,6 @@
 -- A stage is reached by the beginnings of constraints, and by no other bytes.
-use Rattle.std.proofs.Common.{◌≡◌, ◌∙◌, ℕ, ◌+◌, ◌<◌, ◌≤◌, ◌⊎◌, inl, inr, List, [], ◌∷◌, ◌++◌, length, take, drop, get_or, Option, Some, None, IsSome, IfOk, IfErr, Ok, codes, refl, sym, ap, subst, arith}
+use Rattle.std.proofs.Common.{◌≡◌, ◌∙◌, ℕ, ◌+◌, ◌<◌, ◌≤◌, ◌⊎◌, inl, inr, List, [], ◌∷◌, ◌++◌, length, take, drop}
+use Rattle.std.proofs.Common.{get_or, Option, Some, None, IsSome, IfOk, IfErr, Ok, codes, refl, sym, ap, subst, arith}
 use Rattle.std.specs.Option.{option_and_then, ok_or}
 use Rattle.std.proofs.lemmas.Bool.{cases_lt}
 use Rattle.std.proofs.lemmas.List.{append-nil, take_more, take-append-drop, take-take, take_all}
@@ -11,7 +12,8 @@ use Rattle.cost_rule.specs.declared.constraint.Constraint.{Constraint}
 use Rattle.cost_rule.specs.declared.fault.ConstraintFault.{ConstraintFault}
 use Rattle.cost_rule.specs.declared.fault.ConstraintFault.TheVariants.{BadAt}
 use Rattle.cost_rule.specs.declared.stage.Stage.{Stage}
-use Rattle.cost_rule.specs.declared.stage.Stage.TheVariants.{Start, Bracket, Index, Closed, Spaced, Greater, Less, Equal, Related, Apart, Whole, Point, Fraction}
+use Rattle.cost_rule.specs.declared.stage.Stage.TheVariants.{Start, Bracket, Index, Closed, Spaced, Greater, Less}
+use Rattle.cost_rule.specs.declared.stage.Stage.TheVariants.{Equal, Related, Apart, Whole, Point, Fraction}
 use Rattle.cost_rule.proofs.Complete.{read-spelled}
 use Rattle.cost_rule.proofs.Reading.{read, read-append, read-nil, walk, walk-append, walk-one}
 use Rattle.cost_rule.proofs.Sound.{spelled-read}
@@ -61,7 +63,8 @@ begins-walked text stage walked =
       rest = ending stage;
       constraint = found.0;
       spells = spelled-read (text ++ ending stage) found.0
-          (read-append Start text (ending stage) ∙ ap (option_and_then (λ next. read next (ending stage))) walked ∙ found.1);
+          (read-append Start text (ending stage) ∙ ap (option_and_then (λ next. read next (ending stage)))
+          walked ∙ found.1);
     }
 
 -- bytes that reach none don't
@@ -73,7 +76,8 @@ begins-stuck text begins stuck =
     ∙ read-spelled (text ++ begins.rest) begins.constraint begins.spells)
 
 -- a text begins what it spells
-pub begins-spelled : (text : List ℕ) (constraint : Constraint) → Spells text constraint → BeginsConstraint (take (length text) text)
+pub begins-spelled : (text : List ℕ) (constraint : Constraint) → Spells text constraint
+    → BeginsConstraint (take (length text) text)
 begins-spelled text constraint spelled =
     let P : List ℕ → Type 0 = λ bytes. Spells bytes constraint in
     record {
@@ -94,7 +98,8 @@ module _ (text : List ℕ) (place : ℕ) (stage : Stage) (inside : place < lengt
 
   stuck_later : (more : ℕ) → place < more → walk Start (take more text) ≡ None
   stuck_later more beyond =
-      let first : take (place + 1) (take more text) ≡ take (place + 1) text = take-take (place + 1) more text (omega arith) in
+      let first : take (place + 1) (take more text) ≡ take (place + 1) text =
+      take-take (place + 1) more text (omega arith) in
       ap (walk Start) (sym (take-append-drop (place + 1) (take more text)))
       ∙ walk-append Start (take (place + 1) (take more text)) (drop (place + 1) (take more text))
       ∙ ap (λ front. option_and_then (λ next. walk next (drop (place + 1) (take more text))) (walk Start front)) first
@@ -115,11 +120,13 @@ module _ (text : List ℕ) (place : ℕ) (stage : Stage) (inside : place < lengt
   -- and the text spells nothing
   pub spells-stuck : (constraint : Constraint) → Spells text constraint → ⊥
   spells-stuck constraint spelled =
-      let beyond : length text ≤ place = longest-stuck.longest (length text) (omega arith) (begins-spelled text constraint spelled) in
+      let beyond : length text ≤ place =
+      longest-stuck.longest (length text) (omega arith) (begins-spelled text constraint spelled) in
       omega arith
 
 -- a stage after all bytes is that after the text
-pub walked-all : (text : List ℕ) (place : ℕ) (stage : Stage) → length text ≤ place → walk Start (take place text) ≡ Some stage
+pub walked-all : (text : List ℕ) (place : ℕ) (stage : Stage) → length text ≤ place
+    → walk Start (take place text) ≡ Some stage
     → walk Start text ≡ Some stage
 walked-all text place stage past walked = ap (walk Start) (sym (take_all place text past)) ∙ walked
 
@@ -132,7 +139,8 @@ module _ (text : List ℕ) (stage : Stage) (walked : walk Start text ≡ Some st
       ∙ read-nil stage
 
   -- what the last stage gives is what the text spells
-  pub ok-end : (found : Option Constraint) (fault : ConstraintFault) → found ≡ finish stage → IfOk (ok_or found fault) (Spells text)
+  pub ok-end : (found : Option Constraint) (fault : ConstraintFault) → found ≡ finish stage
+      → IfOk (ok_or found fault) (Spells text)
   ok-end None fault e = tt
   ok-end (Some constraint) fault e = spelled-read text constraint (reads ∙ sym e)
 

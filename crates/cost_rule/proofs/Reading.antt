@@ -15,7 +15,8 @@ unfolding read
 read-nil stage = refl
 
 -- reading on after a byte
-pub read-cons : (stage next : Stage) (byte : ℕ) (rest : List ℕ) → step stage byte ≡ Some next → read stage (byte ∷ rest) ≡ read next rest
+pub read-cons : (stage next : Stage) (byte : ℕ) (rest : List ℕ) → step stage byte ≡ Some next
+    → read stage (byte ∷ rest) ≡ read next rest
 unfolding read
 read-cons stage next byte rest e = ap (option_and_then (λ after. read after rest)) e
 
@@ -27,7 +28,8 @@ after_walk : (found : Option Stage) (front back : List ℕ)
 after_walk None front back h = refl
 after_walk (Some stage) front back h = h stage
 
-pub read-append : (stage : Stage) (front back : List ℕ) → read stage (front ++ back) ≡ option_and_then (λ next. read next back) (walk stage front)
+pub read-append : (stage : Stage) (front back : List ℕ)
+    → read stage (front ++ back) ≡ option_and_then (λ next. read next back) (walk stage front)
 unfolding read walk
 read-append stage [] back = refl
 read-append stage (byte ∷ front) back = after_walk (step stage byte) front back (λ next. read-append next front back)
@@ -40,7 +42,8 @@ walk_on : (found : Option Stage) (front back : List ℕ)
 walk_on None front back h = refl
 walk_on (Some stage) front back h = h stage
 
-pub walk-append : (stage : Stage) (front back : List ℕ) → walk stage (front ++ back) ≡ option_and_then (λ next. walk next back) (walk stage front)
+pub walk-append : (stage : Stage) (front back : List ℕ)
+    → walk stage (front ++ back) ≡ option_and_then (λ next. walk next back) (walk stage front)
 unfolding walk
 walk-append stage [] back = refl
 walk-append stage (byte ∷ front) back = walk_on (step stage byte) front back (λ next. walk-append next front back)

@@ -1,5 +1,6 @@
 -- A text that reads as a constraint spells it.
-use Rattle.std.proofs.Common.{◌≡◌, ◌∙◌, ℕ, ◌<◌, Bool, true, false, cond, List, [], ◌∷◌, ◌++◌, Option, Some, None, append_assoc, nat_eq, nat_lt, refl, sym, ap, subst, arith}
+use Rattle.std.proofs.Common.{◌≡◌, ◌∙◌, ℕ, ◌<◌, Bool, true, false, cond, List, [], ◌∷◌, ◌++◌, Option, Some, None}
+use Rattle.std.proofs.Common.{append_assoc, nat_eq, nat_lt, refl, sym, ap, subst, arith}
 use Rattle.std.specs.Char.{is_ascii_digit}
 use Rattle.std.specs.Option.{IsSomeAnd, option_map, option_and_then}
 use Rattle.std.proofs.lemmas.Bool.{and_from, eqb-true, ltb-true}
@@ -11,11 +12,13 @@ use Rattle.cost_rule.specs.declared.constraint.Relation.{Relation}
 use Rattle.cost_rule.specs.declared.constraint.Relation.TheVariants.{Gt, Lt, Ge, Le, Eq}
 use Rattle.cost_rule.specs.declared.digits.Digits.{Digits}
 use Rattle.cost_rule.specs.declared.stage.Stage.{Stage}
-use Rattle.cost_rule.specs.declared.stage.Stage.TheVariants.{Start, Bracket, Index, Closed, Spaced, Greater, Less, Equal, Related, Apart, Whole, Point, Fraction}
+use Rattle.cost_rule.specs.declared.stage.Stage.TheVariants.{Start, Bracket, Index, Closed, Spaced, Greater, Less}
+use Rattle.cost_rule.specs.declared.stage.Stage.TheVariants.{Equal, Related, Apart, Whole, Point, Fraction}
 use Rattle.cost_rule.proofs.DigitLemmas.{extended, extended-number}
 use Rattle.cost_rule.proofs.Complete.{finish-fraction, made}
 use Rattle.cost_rule.proofs.Reading.{read}
-use Rattle.cost_rule.proofs.Remainder.{AreFurther, BoundRest, Completes, FractionRest, IndexRest, OnlyBlanks, PointRest, SpacedRest, WholeRest, WordRest}
+use Rattle.cost_rule.proofs.Remainder.{AreFurther, BoundRest, Completes, FractionRest, IndexRest, OnlyBlanks, PointRest}
+use Rattle.cost_rule.proofs.Remainder.{SpacedRest, WholeRest, WordRest}
 
 -- the two ways of a test
 split : {G : Type 0} (test : Bool) (x y : Option Stage) (P : Stage → Type 0)
@@ -46,7 +49,8 @@ taken most digits byte next P on_true h =
 
 module _ (byte : ℕ) (bytes : List ℕ) (constraint : Constraint) where
   back_fraction : (index : Option ℕ) (relation : Relation) (whole : ℕ) (digits : Digits)
-      → is_ascii_digit byte ≡ true → digits.count < 6 → FractionRest index relation whole (pushed digits byte) bytes constraint
+      → is_ascii_digit byte ≡ true → digits.count < 6
+      → FractionRest index relation whole (pushed digits byte) bytes constraint
       → FractionRest index relation whole digits (byte ∷ bytes) constraint
   back_fraction index relation whole digits is_digit room rest = record {
     all = and_from _ _ is_digit rest.all;
@@ -99,10 +103,12 @@ module _ (byte : ℕ) (bytes : List ℕ) (constraint : Constraint) where
     are = record { digits = and_from _ _ is_digit rest.all; some = omega arith; few = omega (arith, rest.few) };
     is = rest.is;
     prints = ap (λ text. byte ∷ text) rest.prints;
-    value = ap (λ number. made index relation number rest.fraction) (sym (extended-number no_digits (byte ∷ rest.further))) ∙ rest.value;
+    value = ap (λ number. made index relation number rest.fraction)
+        (sym (extended-number no_digits (byte ∷ rest.further))) ∙ rest.value;
   }
 
-  back_apart : (index : Option ℕ) (relation : Relation) → is_blank byte ≡ true → BoundRest OnlyBlanks index relation bytes constraint
+  back_apart : (index : Option ℕ) (relation : Relation) → is_blank byte ≡ true
+      → BoundRest OnlyBlanks index relation bytes constraint
       → BoundRest OnlyBlanks index relation (byte ∷ bytes) constraint
   back_apart index relation is rest = record {
     blanks = byte ∷ rest.blanks;
@@ -115,7 +121,8 @@ module _ (byte : ℕ) (bytes : List ℕ) (constraint : Constraint) where
     value = rest.value;
   }
 
-  back_related : (index : Option ℕ) (relation : Relation) → is_blank byte ≡ true → BoundRest OnlyBlanks index relation bytes constraint
+  back_related : (index : Option ℕ) (relation : Relation) → is_blank byte ≡ true
+      → BoundRest OnlyBlanks index relation bytes constraint
       → BoundRest AreBlanks index relation (byte ∷ bytes) constraint
   back_related index relation is rest = record {
     blanks = byte ∷ rest.blanks;
@@ -137,14 +144,16 @@ module _ (byte : ℕ) (bytes : List ℕ) (constraint : Constraint) where
       (λ is rest. record {
         relation = strict;
         rest = bytes;
-        prints = ap (λ letters. letters ++ bytes) by_t ∙ ap (λ letter. first ∷ letter ∷ bytes) (sym (eqb-true byte 116 is));
+        prints = ap (λ letters. letters ++ bytes) by_t
+            ∙ ap (λ letter. first ∷ letter ∷ bytes) (sym (eqb-true byte 116 is));
         bound = rest;
       })
       (only (nat_eq byte 101) (Related index wide) _
       (λ is rest. record {
         relation = wide;
         rest = bytes;
-        prints = ap (λ letters. letters ++ bytes) by_e ∙ ap (λ letter. first ∷ letter ∷ bytes) (sym (eqb-true byte 101 is));
+        prints = ap (λ letters. letters ++ bytes) by_e
+            ∙ ap (λ letter. first ∷ letter ∷ bytes) (sym (eqb-true byte 101 is));
         bound = rest;
       }))
 
@@ -178,7 +187,8 @@ module _ (byte : ℕ) (bytes : List ℕ) (constraint : Constraint) where
     worded = rest.worded;
   }
 
-  from_word : (index : ℕ) → WordRest (Some index) (byte ∷ bytes) constraint → SpacedRest OnlyBlanks index (byte ∷ bytes) constraint
+  from_word : (index : ℕ) → WordRest (Some index) (byte ∷ bytes) constraint
+      → SpacedRest OnlyBlanks index (byte ∷ bytes) constraint
   from_word index worded = record { blanks = []; rest = byte ∷ bytes; good = refl; prints = refl; worded = worded }
 
   back_closed : (index : ℕ) → is_blank byte ≡ true → SpacedRest OnlyBlanks index bytes constraint
@@ -202,7 +212,8 @@ module _ (byte : ℕ) (bytes : List ℕ) (constraint : Constraint) where
   }
 
   back_index : (digits : Digits) → is_ascii_digit byte ≡ true → digits.count < 2
-      → IndexRest (AreFurther (pushed digits byte)) (λ further. (extended (pushed digits byte) further).number) bytes constraint
+      → IndexRest (AreFurther (pushed digits byte)) (λ further. (extended (pushed digits byte) further).number)
+      bytes constraint
       → IndexRest (AreFurther digits) (λ further. (extended digits further).number) (byte ∷ bytes) constraint
   back_index digits is_digit room rest = record {
     further = byte ∷ rest.further;
@@ -213,14 +224,19 @@ module _ (byte : ℕ) (bytes : List ℕ) (constraint : Constraint) where
   }
 
   back_bracket : is_ascii_digit byte ≡ true
-      → IndexRest (AreFurther (pushed no_digits byte)) (λ further. (extended (pushed no_digits byte) further).number) bytes constraint
+      → IndexRest (AreFurther (pushed no_digits byte)) (λ further. (extended (pushed no_digits byte) further).number)
+      bytes constraint
       → IndexRest (AreDigits 2) number_of (byte ∷ bytes) constraint
   back_bracket is_digit rest =
       let P : ℕ → Type 0 = λ number. SpacedRest AreBlanks number rest.rest constraint in
       record {
         further = byte ∷ rest.further;
         rest = rest.rest;
-        good = record { digits = and_from _ _ is_digit rest.good.all; some = omega arith; few = omega (arith, rest.good.few) };
+        good = record {
+          digits = and_from _ _ is_digit rest.good.all;
+          some = omega arith;
+          few = omega (arith, rest.good.few);
+        };
         prints = ap (λ text. byte ∷ text) rest.prints;
         closed = subst P (extended-number no_digits (byte ∷ rest.further)) rest.closed;
       }
@@ -241,14 +257,17 @@ module _ (byte : ℕ) (bytes : List ℕ) (constraint : Constraint) where
   }
 
   -- a constraint with an index
-  with_index : nat_eq byte 91 ≡ true → IndexRest (AreDigits 2) number_of bytes constraint → Spells (byte ∷ bytes) constraint
+  with_index : nat_eq byte 91 ≡ true → IndexRest (AreDigits 2) number_of bytes constraint
+      → Spells (byte ∷ bytes) constraint
   with_index is rest =
       let closed = rest.closed in
       let worded = closed.worded in
       let bound = worded.bound in
-      let after : word worded.relation ++ (bound.blanks ++ (bound.whole ++ fraction_text bound.fraction)) ≡ closed.rest =
+      let after : word worded.relation ++ (bound.blanks ++ (bound.whole ++ fraction_text bound.fraction))
+      ≡ closed.rest =
       ap (λ text. word worded.relation ++ text) bound.prints ∙ worded.prints in
-      let spaced : closed.blanks ++ (word worded.relation ++ (bound.blanks ++ (bound.whole ++ fraction_text bound.fraction))) ≡ rest.rest =
+      let spaced : closed.blanks ++ (word worded.relation
+      ++ (bound.blanks ++ (bound.whole ++ fraction_text bound.fraction))) ≡ rest.rest =
       ap (λ text. closed.blanks ++ text) after ∙ closed.prints in
       record {
         parts = record {
@@ -258,7 +277,12 @@ module _ (byte : ℕ) (bytes : List ℕ) (constraint : Constraint) where
           whole = bound.whole;
           fraction = bound.fraction;
         };
-        in_form = record { index = (rest.good, closed.good); blanks = bound.good; whole = bound.are; fraction = bound.is };
+        in_form = record {
+          index = (rest.good, closed.good);
+          blanks = bound.good;
+          whole = bound.are;
+          fraction = bound.is;
+        };
         prints =
             ap (λ text. 91 ∷ text)
             (append_assoc rest.further (93 ∷ closed.blanks) _
@@ -269,33 +293,43 @@ module _ (byte : ℕ) (bytes : List ℕ) (constraint : Constraint) where
       }
 
   -- what completes the next stage completes this one after the byte
-  back : (stage : Stage) → IsSomeAnd (step stage byte) (λ next. Completes next bytes constraint) → Completes stage (byte ∷ bytes) constraint
+  back : (stage : Stage) → IsSomeAnd (step stage byte) (λ next. Completes next bytes constraint)
+      → Completes stage (byte ∷ bytes) constraint
   back Start h =
-      split (nat_eq byte 91) (Some Bracket) (first_letter None byte) _ (λ is rest. with_index is rest) (λ rest. without_index (back_first None rest)) h
+      split (nat_eq byte 91) (Some Bracket) (first_letter None byte) _ (λ is rest. with_index is rest)
+      (λ rest. without_index (back_first None rest)) h
   back Bracket h = taken 2 no_digits byte Index _ (λ is_digit room rest. back_bracket is_digit rest) h
   back (Index digits) h =
-      split (nat_eq byte 93) (Some (Closed digits.number)) (option_map Index (more 2 digits byte)) _ (λ is rest. at_bracket digits is rest)
+      split (nat_eq byte 93) (Some (Closed digits.number)) (option_map Index (more 2 digits byte))
+      _ (λ is rest. at_bracket digits is rest)
       (taken 2 digits byte Index _ (λ is_digit room rest. back_index digits is_digit room rest)) h
   back (Closed index) h = only (is_blank byte) (Spaced index) _ (λ is rest. back_closed index is rest) h
   back (Spaced index) h =
-      split (is_blank byte) (Some (Spaced index)) (first_letter (Some index) byte) _ (λ is rest. back_spaced index is rest)
+      split (is_blank byte) (Some (Spaced index)) (first_letter (Some index) byte)
+      _ (λ is rest. back_spaced index is rest)
       (λ rest. from_word index (back_first (Some index) rest)) h
   back (Greater index) h = back_second index 103 Gt Ge refl refl h
   back (Less index) h = back_second index 108 Lt Le refl refl h
   back (Equal index) h = only (nat_eq byte 113) (Related index Eq) _ (λ is rest. back_equal index is rest) h
-  back (Related index relation) h = only (is_blank byte) (Apart index relation) _ (λ is rest. back_related index relation is rest) h
+  back (Related index relation) h =
+      only (is_blank byte) (Apart index relation) _ (λ is rest. back_related index relation is rest) h
   back (Apart index relation) h =
       split (is_blank byte) (Some (Apart index relation)) (option_map (Whole index relation) (more 16 no_digits byte)) _
       (λ is rest. back_apart index relation is rest)
-      (taken 16 no_digits byte (Whole index relation) _ (λ is_digit room rest. first_whole index relation is_digit rest)) h
+      (taken 16 no_digits byte (Whole index relation)
+      _ (λ is_digit room rest. first_whole index relation is_digit rest)) h
   back (Whole index relation digits) h =
-      split (nat_eq byte 46) (Some (Point index relation digits.number)) (option_map (Whole index relation) (more 16 digits byte)) _
+      split (nat_eq byte 46) (Some (Point index relation digits.number))
+      (option_map (Whole index relation) (more 16 digits byte)) _
       (λ is rest. at_point index relation digits is rest)
-      (taken 16 digits byte (Whole index relation) _ (λ is_digit room rest. back_whole index relation digits is_digit room rest)) h
+      (taken 16 digits byte (Whole index relation) _ (λ is_digit room rest. back_whole index relation digits
+      is_digit room rest)) h
   back (Point index relation whole) h =
-      taken 6 no_digits byte (Fraction index relation whole) _ (λ is_digit room rest. back_point index relation whole is_digit rest) h
+      taken 6 no_digits byte (Fraction index relation whole)
+      _ (λ is_digit room rest. back_point index relation whole is_digit rest) h
   back (Fraction index relation whole digits) h =
-      taken 6 digits byte (Fraction index relation whole) _ (λ is_digit room rest. back_fraction index relation whole digits is_digit room rest) h
+      taken 6 digits byte (Fraction index relation whole) _ (λ is_digit room rest. back_fraction index relation whole
+      digits is_digit room rest) h
 
 -- what a text that ends completes
 at_end : (stage : Stage) (constraint : Constraint) → finish stage ≡ Some constraint → Completes stage [] constraint
@@ -324,17 +358,21 @@ at_end (Point index relation whole) constraint h = absurd (none-some constraint 
 -- after a byte
 later : (found : Option Stage) (bytes : List ℕ) (constraint : Constraint)
     → ((next : Stage) → read next bytes ≡ Some constraint → Completes next bytes constraint)
-    → option_and_then (λ next. read next bytes) found ≡ Some constraint → IsSomeAnd found (λ next. Completes next bytes constraint)
+    → option_and_then (λ next. read next bytes) found ≡ Some constraint
+    → IsSomeAnd found (λ next. Completes next bytes constraint)
 later None bytes constraint each h = absurd (none-some constraint h)
 later (Some next) bytes constraint each h = each next h
 
 -- what is read completes the stage
-completes : (stage : Stage) (text : List ℕ) (constraint : Constraint) → read stage text ≡ Some constraint → Completes stage text constraint
+completes : (stage : Stage) (text : List ℕ) (constraint : Constraint) → read stage text ≡ Some constraint
+    → Completes stage text constraint
 unfolding read
 completes stage [] constraint h = at_end stage constraint h
 completes stage (byte ∷ bytes) constraint h =
-    back byte bytes constraint stage (later (step stage byte) bytes constraint (λ next. completes next bytes constraint) h)
+    back byte bytes constraint stage
+    (later (step stage byte) bytes constraint (λ next. completes next bytes constraint) h)
 
 -- a text that reads as a constraint spells it
-pub spelled-read : (text : List ℕ) (constraint : Constraint) → read Start text ≡ Some constraint → Spells text constraint
+pub spelled-read : (text : List ℕ) (constraint : Constraint) → read Start text ≡ Some constraint
+    → Spells text constraint
 spelled-read text constraint h = completes Start text constraint h

@@ -64,7 +64,9 @@ fraction_text (Some digits) = codes "." ++ digits
 
 -- the text that the parts print to
 abbrev pub printed : Parts → List ℕ
-printed parts = index_text parts.index ++ (word parts.relation ++ (parts.blanks ++ (parts.whole ++ fraction_text parts.fraction)))
+printed parts =
+    index_text parts.index
+    ++ (word parts.relation ++ (parts.blanks ++ (parts.whole ++ fraction_text parts.fraction)))
 
 -- an index in brackets has 1 to 2 digits
 abbrev pub IsIndex : Option IndexPart → Type 0

@@ -65,7 +65,11 @@ abbrev pub finish : Stage → Option Constraint
 finish (Whole index relation digits) =
     Some (record { index = index; relation = relation; millionths = digits.number * 1_000_000 })
 finish (Fraction index relation whole digits) =
-    Some (record { index = index; relation = relation; millionths = whole * 1_000_000 + digits.number * 10 ^ (6 - digits.count) })
+    Some (record {
+      index = index;
+      relation = relation;
+      millionths = whole * 1_000_000 + digits.number * 10 ^ (6 - digits.count);
+    })
 finish _ = None
 
 -- the constraint of the bytes that are left

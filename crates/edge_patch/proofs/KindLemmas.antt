@@ -1,4 +1,5 @@
--- What each kind of map brings: its maps differ at the places of the keys by which rows differ, and other keys touch no place.
+-- What each kind of map brings: its maps differ at the places of the keys by which rows differ, and other keys touch no
+-- place.
 use Rattle.std.proofs.Common.{◌≡◌}
 use Rattle.std.specs.Prelude.{false, List, map}
 use Rattle.alto_rows.specs.declared.key.Key.{Key}

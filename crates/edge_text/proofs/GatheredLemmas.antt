@@ -70,12 +70,14 @@ is_before a b from other = by (slice_cmp nat_cmp a b) from (is_eq-slice_cmp a b 
     by Equal g h = cc
     by Greater g h = cc
 
-rise-with_pair : (p : Pair) (groups : List Touched) → IsFrom p.0 groups → Rise (names_in groups) → Rise (names_in (with_pair p groups))
+rise-with_pair : (p : Pair) (groups : List Touched) → IsFrom p.0 groups → Rise (names_in groups)
+    → Rise (names_in (with_pair p groups))
 unfolding IsStrictlySortedBy
 rise-with_pair p [] from rise = (tt, tt)
 rise-with_pair p (group ∷ groups) from rise = by (same_name p.0 group.0) refl
   where
-    by : (b : Bool) → same_name p.0 group.0 ≡ b → Rise (names_in (cond b ((p.0, p.1 ∷ group.1) ∷ groups) ((p.0, p.1 ∷ []) ∷ group ∷ groups)))
+    by : (b : Bool) → same_name p.0 group.0 ≡ b
+        → Rise (names_in (cond b ((p.0, p.1 ∷ group.1) ∷ groups) ((p.0, p.1 ∷ []) ∷ group ∷ groups)))
     by true e = (subst (λ n. AreAbove n (names_in groups)) (sym (one p.0 group.0 e)) rise.0, rise.1)
     by false e =
         let less : slice_cmp nat_cmp p.0 group.0 ≡ Less = is_before p.0 group.0 from e in
@@ -87,17 +89,21 @@ names_rise [] stand = tt
 names_rise (p ∷ pairs) stand = rise-with_pair p (gathered pairs) (from_first p pairs stand.0) (names_rise pairs stand.1)
 
 -- they are the sources
-named : (q : Name) (pairs : List Pair) → list_any (same_name q) (names_in (gathered pairs)) ≡ list_any (same_name q) (sources_in pairs)
+named : (q : Name) (pairs : List Pair)
+    → list_any (same_name q) (names_in (gathered pairs)) ≡ list_any (same_name q) (sources_in pairs)
 named q [] = refl
 named q (p ∷ pairs) = by (gathered pairs) (named q pairs)
   where
     by : (groups : List Touched) → list_any (same_name q) (names_in groups) ≡ list_any (same_name q) (sources_in pairs)
-        → list_any (same_name q) (names_in (with_pair p groups)) ≡ (same_name q p.0 || list_any (same_name q) (sources_in pairs))
+        → list_any (same_name q) (names_in (with_pair p groups))
+        ≡ (same_name q p.0 || list_any (same_name q) (sources_in pairs))
     by [] below = ap (λ b. same_name q p.0 || b) below
     by (group ∷ groups) below = at (same_name p.0 group.0) refl
       where
         at : (b : Bool) → same_name p.0 group.0 ≡ b
-            → list_any (same_name q) (names_in (cond b ((p.0, p.1 ∷ group.1) ∷ groups) ((p.0, p.1 ∷ []) ∷ group ∷ groups))) ≡ (same_name q p.0 || list_any (same_name q) (sources_in pairs))
+            → list_any (same_name q) (names_in
+            (cond b ((p.0, p.1 ∷ group.1) ∷ groups) ((p.0, p.1 ∷ []) ∷ group ∷ groups)))
+            ≡ (same_name q p.0 || list_any (same_name q) (sources_in pairs))
         at true e =
             let same : same_name q group.0 ≡ same_name q p.0 = ap (same_name q) (sym (one p.0 group.0 e)) in
             rw (← below, same) (sym (or_self_left (same_name q p.0) (list_any (same_name q) (names_in groups))))
@@ -105,7 +111,8 @@ named q (p ∷ pairs) = by (gathered pairs) (named q pairs)
 
 pub names_set : (pairs : List Pair) → Stand pairs → set_of (sources_in pairs) ≡ names_in (gathered pairs)
 names_set pairs stand =
-    same_names (set_of (sources_in pairs)) (names_in (gathered pairs)) (rise-set_of (sources_in pairs)) (names_rise pairs stand)
+    same_names (set_of (sources_in pairs)) (names_in (gathered pairs)) (rise-set_of (sources_in pairs))
+    (names_rise pairs stand)
     (λ q. any-set_of q (sources_in pairs) ∙ sym (named q pairs))
 
 -- ---- their members
@@ -115,12 +122,14 @@ none_own : (src : Name) (pairs : List Pair) → list_any (same_name src) (source
 none_own src [] none = refl
 none_own src (p ∷ pairs) none = by (same_name src p.0) refl (none_own src pairs)
   where
-    by : (b : Bool) → same_name src p.0 ≡ b → (list_any (same_name src) (sources_in pairs) ≡ false → own src pairs ≡ []) → own src (p ∷ pairs) ≡ []
+    by : (b : Bool) → same_name src p.0 ≡ b → (list_any (same_name src) (sources_in pairs) ≡ false → own src pairs ≡ [])
+        → own src (p ∷ pairs) ≡ []
     by true e below = let both : true ≡ false = rw e at none in cc
     by false e below = rw e (below (rw e at none))
 
 -- those of other sources stay
-own_other : (src : Name) (p : Pair) (pairs : List Pair) → same_name src p.0 ≡ false → own src (p ∷ pairs) ≡ own src pairs
+own_other : (src : Name) (p : Pair) (pairs : List Pair) → same_name src p.0 ≡ false
+    → own src (p ∷ pairs) ≡ own src pairs
 own_other src p pairs e = rw e refl
 
 own_more : (p : Pair) (pairs : List Pair) → own p.0 (p ∷ pairs) ≡ p.1 ∷ own p.0 pairs
@@ -141,16 +150,20 @@ apart_above a b less = by (same_name b a) refl
         let no : same_name a b ≡ false = sym (is_eq-slice_cmp a b) ∙ ap is_eq less in
         cc
 
-kept_above : (p : Pair) (pairs : List Pair) (groups : List Touched) → AreAbove p.0 (names_in groups) → HaveOwn pairs groups → HaveOwn (p ∷ pairs) groups
+kept_above : (p : Pair) (pairs : List Pair) (groups : List Touched) → AreAbove p.0 (names_in groups)
+    → HaveOwn pairs groups → HaveOwn (p ∷ pairs) groups
 kept_above p pairs [] above have = tt
-kept_above p pairs (group ∷ groups) above have =
-    (have.0 ∙ sym (own_other group.0 p pairs (apart_above p.0 group.0 above.0)), kept_above p pairs groups above.1 have.1)
+kept_above p pairs (group ∷ groups) above have = (
+  have.0 ∙ sym (own_other group.0 p pairs (apart_above p.0 group.0 above.0)),
+  kept_above p pairs groups above.1 have.1,
+)
 
 pub have_own : (pairs : List Pair) → Stand pairs → HaveOwn pairs (gathered pairs)
 unfolding IsStrictlySortedBy
 have_own [] stand = tt
 have_own (p ∷ pairs) stand =
-    by (gathered pairs) (from_first p pairs stand.0) (names_rise pairs stand.1) (have_own pairs stand.1) (λ q. named q pairs)
+    by (gathered pairs) (from_first p pairs stand.0) (names_rise pairs stand.1) (have_own pairs stand.1)
+    (λ q. named q pairs)
   where
     by : (groups : List Touched) → IsFrom p.0 groups → Rise (names_in groups) → HaveOwn pairs groups
         → ((q : Name) → list_any (same_name q) (names_in groups) ≡ list_any (same_name q) (sources_in pairs))
@@ -159,7 +172,8 @@ have_own (p ∷ pairs) stand =
         (sym (own_more p pairs ∙ ap (λ ns. p.1 ∷ ns) (none_own p.0 pairs (sym (sources p.0)))), tt)
     by (group ∷ groups) from rise have sources = at (same_name p.0 group.0) refl
       where
-        at : (b : Bool) → same_name p.0 group.0 ≡ b → HaveOwn (p ∷ pairs) (cond b ((p.0, p.1 ∷ group.1) ∷ groups) ((p.0, p.1 ∷ []) ∷ group ∷ groups))
+        at : (b : Bool) → same_name p.0 group.0 ≡ b
+            → HaveOwn (p ∷ pairs) (cond b ((p.0, p.1 ∷ group.1) ∷ groups) ((p.0, p.1 ∷ []) ∷ group ∷ groups))
         at true e =
             let same : p.0 ≡ group.0 = one p.0 group.0 e in (
               ap (λ ns. p.1 ∷ ns) (have.0 ∙ ap (λ n. own n pairs) (sym same)) ∙ sym (own_more p pairs),
@@ -167,9 +181,13 @@ have_own (p ∷ pairs) stand =
             )
         at false e =
             let less : slice_cmp nat_cmp p.0 group.0 ≡ Less = is_before p.0 group.0 from e in
-            let above : AreAbove p.0 (names_in (group ∷ groups)) = (less, above_lesser p.0 group.0 (names_in groups) less rise.0) in
-            let none : list_any (same_name p.0) (sources_in pairs) ≡ false = sym (sources p.0) ∙ none_above p.0 p.0 (names_in (group ∷ groups)) above refl in
-            (sym (own_more p pairs ∙ ap (λ ns. p.1 ∷ ns) (none_own p.0 pairs none)), kept_above p pairs (group ∷ groups) above have)
+            let above : AreAbove p.0 (names_in (group ∷ groups)) =
+            (less, above_lesser p.0 group.0 (names_in groups) less rise.0) in
+            let none : list_any (same_name p.0) (sources_in pairs) ≡ false = sym (sources p.0)
+            ∙ none_above p.0 p.0 (names_in (group ∷ groups)) above refl in (
+              sym (own_more p pairs ∙ ap (λ ns. p.1 ∷ ns) (none_own p.0 pairs none)),
+              kept_above p pairs (group ∷ groups) above have,
+            )
 
 -- the destinations of a source rise
 own_above : (p : Pair) (pairs : List Pair) → AreBehind p pairs → AreAbove p.1 (own p.0 pairs)

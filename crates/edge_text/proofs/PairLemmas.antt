@@ -30,17 +30,20 @@ Stand (p ∷ pairs) = AreBehind p pairs × Stand pairs
 -- ---- the pairs of keys
 
 -- the keys of two costs in a metric stand as their pairs
-by_pair : (net metric src from dst to : Name) → key_cmp (key.Cost net metric src dst) (key.Cost net metric from to) ≡ pair_cmp (src, dst) (from, to)
+by_pair : (net metric src from dst to : Name)
+    → key_cmp (key.Cost net metric src dst) (key.Cost net metric from to) ≡ pair_cmp (src, dst) (from, to)
 unfolding key_cmp
 by_pair net metric src from dst to = rw (tied_itself nat_list_cmp_total net, tied_itself nat_list_cmp_total metric) refl
 
-behind : (net metric src dst : Name) (keys : List Key) → AllByRecursion (λ at. key_cmp (key.Cost net metric src dst) at ≡ Less) keys
+behind : (net metric src dst : Name) (keys : List Key)
+    → AllByRecursion (λ at. key_cmp (key.Cost net metric src dst) at ≡ Less) keys
     → AreBehind (src, dst) (pairs_of net metric keys)
 behind net metric src dst [] past = tt
 behind net metric src dst (key.Cost of kind from to ∷ keys) past =
     by (same_name net of) (same_name metric kind) refl refl (behind net metric src dst keys past.1)
   where
-    by : (a b : Bool) → same_name net of ≡ a → same_name metric kind ≡ b → AreBehind (src, dst) (pairs_of net metric keys)
+    by : (a b : Bool) → same_name net of ≡ a → same_name metric kind ≡ b
+        → AreBehind (src, dst) (pairs_of net metric keys)
         → AreBehind (src, dst) (pairs_of net metric (key.Cost of kind from to ∷ keys))
     by true true e f below =
         let less : key_cmp (key.Cost net metric src dst) (key.Cost net metric from to) ≡ Less =
@@ -50,7 +53,8 @@ behind net metric src dst (key.Cost of kind from to ∷ keys) past =
     by false b e f below = rw e below
 behind net metric src dst (_ ∷ keys) past = behind net metric src dst keys past.1
 
-pub pairs_stand : (net metric : Name) (keys : List Key) → IsStrictlySortedBy key_cmp keys → Stand (pairs_of net metric keys)
+pub pairs_stand : (net metric : Name) (keys : List Key) → IsStrictlySortedBy key_cmp keys
+    → Stand (pairs_of net metric keys)
 unfolding IsStrictlySortedBy
 pairs_stand net metric [] rising = tt
 pairs_stand net metric (key.Cost of kind from to ∷ keys) rising =
@@ -72,7 +76,8 @@ pairs_stand net metric (_ ∷ keys) rising = pairs_stand net metric keys rising.
 pub source_from : (p q : Pair) → pair_cmp p q ≡ Less → is_gt (name_cmp p.0 q.0) ≡ false
 source_from p q less = by (name_cmp p.0 q.0) refl less
   where
-    by : (o : Ordering) → name_cmp p.0 q.0 ≡ o → ordering_then (name_cmp p.0 q.0) (name_cmp p.1 q.1) ≡ Less → is_gt (name_cmp p.0 q.0) ≡ false
+    by : (o : Ordering) → name_cmp p.0 q.0 ≡ o → ordering_then (name_cmp p.0 q.0) (name_cmp p.1 q.1) ≡ Less
+        → is_gt (name_cmp p.0 q.0) ≡ false
     by Less e h = rw e refl
     by Equal e h = rw e refl
     by Greater e h = let both : ordering_then Greater (name_cmp p.1 q.1) ≡ Less = rw e at h in cc

@@ -19,11 +19,13 @@ byte_plain b admitted =
     ]
 
 -- where no byte was refused, the first one was admitted, and none was refused further on
-none_refused : (admitted : Bool) (place : ℕ) (later : Option ℕ) → cond (not admitted) (Some place) later ≡ None → (admitted ≡ true) × (later ≡ None)
+none_refused : (admitted : Bool) (place : ℕ) (later : Option ℕ) → cond (not admitted) (Some place) later ≡ None
+    → (admitted ≡ true) × (later ≡ None)
 none_refused true place later none = (refl, none)
 none_refused false place later none = cc
 
-bytes_plain : (i : ℕ) (text : List ℕ) → position_from (λ byte. not (is_pid_byte byte)) i text ≡ None → token_of text ≡ text
+bytes_plain : (i : ℕ) (text : List ℕ) → position_from (λ byte. not (is_pid_byte byte)) i text ≡ None
+    → token_of text ≡ text
 bytes_plain i [] none = refl
 bytes_plain i (b ∷ rest) none =
     let both = none_refused (is_pid_byte b) _ _ none in
@@ -34,7 +36,8 @@ pub token_same : (name : List ℕ) → named is_pid_byte 64 name ≡ Ok name →
 token_same [] read = refl
 token_same (b ∷ rest) read = bytes_plain 0 (b ∷ rest) (by _ _ _ read)
   where
-    by : (long : Bool) (fault : NameFault) (found : Option ℕ) → cond long (Err fault) (unless_bad (b ∷ rest) found) ≡ Ok (b ∷ rest) → found ≡ None
+    by : (long : Bool) (fault : NameFault) (found : Option ℕ)
+        → cond long (Err fault) (unless_bad (b ∷ rest) found) ≡ Ok (b ∷ rest) → found ≡ None
     by false fault None read = refl
     by false fault (Some place) read = cc
     by true fault found read = cc

@@ -1,5 +1,6 @@
 -- Numbers of up to 16 digits.
-use Rattle.std.proofs.Common.{◌≡◌, ℕ, ◌+◌, ◌-◌, ◌*◌, ◌^◌, ◌<◌, ◌≤◌, Bool, true, false, ◌&&◌, List, length, take, get_or, IsTrue, lit<, refl, sym, ◌∙◌, add-one, arith, tests}
+use Rattle.std.proofs.Common.{◌≡◌, ℕ, ◌+◌, ◌-◌, ◌*◌, ◌^◌, ◌<◌, ◌≤◌, Bool, true, false, ◌&&◌, List, length, take, get_or}
+use Rattle.std.proofs.Common.{IsTrue, lit<, refl, sym, ◌∙◌, add-one, arith, tests}
 use Rattle.std.specs.Char.{is_ascii_digit}
 use Rattle.std.specs.Int.{IsInRange}
 use Rattle.std.specs.Str.Parse.{digits_value}
@@ -18,12 +19,14 @@ digit_range : (c : ℕ) → is_ascii_digit c ≡ true → IsInRange 48 57 c
 digit_range c h = grind (arith, tests)
 
 -- each byte of a decimal number is a digit
-digit_at : (digits : List ℕ) (i : ℕ) → IsTrue (is_decimal digits) → i < length digits → IsInRange 48 57 (get_or digits i 0)
+digit_at : (digits : List ℕ) (i : ℕ) → IsTrue (is_decimal digits) → i < length digits
+    → IsInRange 48 57 (get_or digits i 0)
 digit_at digits i is lt = by_test (is_ascii_digit (get_or digits i 0)) refl
   where
     by_test : (t : Bool) → is_ascii_digit (get_or digits i 0) ≡ t → IsInRange 48 57 (get_or digits i 0)
     by_test true digit = digit_range _ digit
-    by_test false other = absurd (false≢true (sym (list_all_at is_ascii_digit digits i 0 lt other) ∙ decimal_all _ _ is))
+    by_test false other = absurd (false≢true (sym (list_all_at is_ascii_digit digits i 0 lt other)
+        ∙ decimal_all _ _ is))
 
 -- a number with one digit more
 pub record Grows (text : List ℕ) (place number : ℕ) : Type 0 where
@@ -32,7 +35,8 @@ pub record Grows (text : List ℕ) (place number : ℕ) : Type 0 where
   pub small : number * 10 + (get_or text place 0 - 48) < 10 ^ (place + 1)
   pub fits : number * 10 + 9 < 2 ^ 64
 
-pub number_grows : (text : List ℕ) (place number : ℕ) → IsTrue (is_decimal text) → length text ≤ 16 → place < length text
+pub number_grows : (text : List ℕ) (place number : ℕ) → IsTrue (is_decimal text) → length text ≤ 16
+    → place < length text
     → number ≡ digits_value 10 (take place text) → number < 10 ^ place → Grows text place number
 number_grows text place number is few within had less =
     let range = digit_at text place is within in

@@ -1,5 +1,7 @@
 -- The parts of a text between its spaces.
-use Rattle.std.proofs.Common.{◌≡◌, ◌≢◌, ◌==◌, ℕ, zero, suc, ◌+◌, ◌≤◌, Bool, true, false, cond, List, [], ◌∷◌, ◌++◌, length, take, drop, All, Option, Some, None, Bor, Ok, Err, refl, sym, ◌∙◌, append_assoc, subst, arith, tests, nat_lt}
+use Rattle.std.proofs.Common.{◌≡◌, ◌≢◌, ◌==◌, ℕ, zero, suc, ◌+◌, ◌≤◌, Bool, true, false, cond, List, [], ◌∷◌, ◌++◌}
+use Rattle.std.proofs.Common.{length, take, drop, All, Option, Some, None, Bor, Ok, Err, refl, sym, ◌∙◌, append_assoc}
+use Rattle.std.proofs.Common.{subst, arith, tests, nat_lt}
 use Rattle.std.specs.Prelude.{MatchOption}
 use Rattle.std.specs.List.{position_from, position_or_len, onto_first}
 use Rattle.std.proofs.Math.ListN.{length-append}
@@ -15,7 +17,8 @@ use Rattle.edit_forms.specs.Columns.{WritesAnes, WritesName, spaced}
 abbrev is_space : ℕ → Bool
 is_space byte = byte == 0x20
 
-one_part : (byte : ℕ) (text : List ℕ) (k : ℕ) (is : Bool) → cond is (Some k) (position_from is_space (k + 1) text) ≡ None
+one_part : (byte : ℕ) (text : List ℕ) (k : ℕ) (is : Bool)
+    → cond is (Some k) (position_from is_space (k + 1) text) ≡ None
     → (position_from is_space (k + 1) text ≡ None → spaced text ≡ text ∷ [])
     → cond is ([] ∷ spaced text) (onto_first byte (spaced text)) ≡ (byte ∷ text) ∷ []
 one_part byte text k true h more = cc h
@@ -26,7 +29,8 @@ pub no_space : (text : List ℕ) (k : ℕ) → position_from is_space k text ≡
 no_space [] k h = refl
 no_space (byte ∷ text) k h = one_part byte text k (is_space byte) h (no_space text (k + 1))
 
-at_place : (below : Bool) (first place : ℕ) → cond below (Some first) None ≡ Some place → (below ≡ true) × (first ≡ place)
+at_place : (below : Bool) (first place : ℕ) → cond below (Some first) None ≡ Some place
+    → (below ≡ true) × (first ≡ place)
 at_place true first place h = (refl, cc h)
 at_place false first place h = cc h
 
@@ -34,7 +38,8 @@ at_place false first place h = cc h
 pub first_space : (text : List ℕ) (place : ℕ) → position_from is_space 0 text ≡ Some place
     → spaced text ≡ take place text ∷ spaced (drop (place + 1) text)
 first_space text place h =
-    let found = at_place (nat_lt (position_or_len is_space text) (length text)) (position_or_len is_space text) place (position_from-zero is_space text ∙ h) in
+    let found = at_place (nat_lt (position_or_len is_space text) (length text)) (position_or_len is_space text)
+    place (position_from-zero is_space text ∙ h) in
     let parts = slice_split_first is_space text 0 (grind (arith, tests, found.0)) in
     subst (λ (at : ℕ). spaced text ≡ take at text ∷ spaced (drop (at + 1) text)) found.1 parts
 
@@ -51,7 +56,8 @@ some_part text = omega (arith, length-slice_split is_space text)
 pub too_many : (text rest : List ℕ) (names : List (List ℕ)) → spaced text ≡ names ++ spaced rest → length names ≡ 64
     → (anes : List (List ℕ)) → ¬ (WritesAnes text anes)
 too_many text rest names parts many anes writes =
-    let all : length anes ≡ length names + length (spaced rest) = rw (writes.0, parts) (length-append names (spaced rest)) in
+    let all : length anes ≡ length names + length (spaced rest) =
+    rw (writes.0, parts) (length-append names (spaced rest)) in
     absurd (omega (arith, all, many, writes.2, some_part rest))
 
 all_middle : (names rest : List (List ℕ)) (first : List ℕ) → All IsAneName (names ++ first ∷ rest) → IsAneName first
@@ -80,7 +86,8 @@ cut_parts rest first (Some more) h = h
 
 -- a part that is a name goes to the names so far
 pub part_more : (text rest first name : List ℕ) (names now : List (List ℕ)) (more : Option (Bor (List ℕ)))
-    → spaced text ≡ names ++ spaced rest → spaced rest ≡ first ∷ parts_left more → first ≡ name → now ≡ names ++ name ∷ []
+    → spaced text ≡ names ++ spaced rest → spaced rest ≡ first ∷ parts_left more → first ≡ name
+    → now ≡ names ++ name ∷ []
     → spaced text ≡ now ++ parts_left more
 part_more text rest first name names now more parts next same pushed =
     rw (parts, next, same, pushed) (sym (append_assoc names (name ∷ []) (parts_left more)))

@@ -15,6 +15,7 @@ module _ {A : Type 0} (column : ℕ) (Writes : A → Type 0) (Rest : A → Resul
   then_value value (Err Memory) writes rest = tt
 
   -- a column without one is the fault
-  pub then_fault : (fault : ColumnFault) → IsValue column Writes (Err fault) → IsAnswer (Then column Writes Rest) (Err fault)
+  pub then_fault : (fault : ColumnFault) → IsValue column Writes (Err fault)
+      → IsAnswer (Then column Writes Rest) (Err fault)
   then_fault (Bad at) h = fails h.1 (rw h.0 refl)
   then_fault Memory h = tt

@@ -1,5 +1,6 @@
 -- Columns that hold nothing, by the place of the first that holds something.
-use Rattle.std.proofs.Common.{◌≡◌, ◌==◌, ℕ, ◌+◌, suc, Bool, cond, not, List, [], ◌∷◌, length, map, Option, Some, None, Result, Ok, Err, Bor, refl, sym, subst, arith}
+use Rattle.std.proofs.Common.{◌≡◌, ◌==◌, ℕ, ◌+◌, suc, Bool, cond, not, List, [], ◌∷◌, length, map, Option, Some, None}
+use Rattle.std.proofs.Common.{Result, Ok, Err, Bor, refl, sym, subst, arith}
 use Rattle.std.proofs.lemmas.Bool.{ne_eqb}
 use Rattle.std.specs.List.{position_from}
 use Rattle.alto_edits.specs.declared.edit.Edit.{Edit}
@@ -16,7 +17,8 @@ is_filled text = not (length text.now == 0)
 
 -- one text more at the front
 filled_next : (first k : ℕ) (bytes : List ℕ) (texts : List (Bor (List ℕ))) (made : Edit)
-    → unless_filled (first + (k + 1)) (map (λ text. text.now) texts) made ≡ unless_at first made (position_from is_filled (k + 1) texts)
+    → unless_filled (first + (k + 1)) (map (λ text. text.now) texts) made
+    ≡ unless_at first made (position_from is_filled (k + 1) texts)
     → unless_filled (first + k) (bytes ∷ map (λ text. text.now) texts) made
     ≡ unless_at first made (cond (not (length bytes == 0)) (Some k) (position_from is_filled (k + 1) texts))
 filled_next first k [] texts made more =
@@ -26,7 +28,8 @@ filled_next first k [] texts made more =
 filled_next first k (byte ∷ rest) texts made more = rw (ne_eqb (suc (length rest)) 0 (λ z. cc z)) refl
 
 unless_filled-position : (first k : ℕ) (texts : List (Bor (List ℕ))) (made : Edit)
-    → unless_filled (first + k) (map (λ text. text.now) texts) made ≡ unless_at first made (position_from is_filled k texts)
+    → unless_filled (first + k) (map (λ text. text.now) texts) made
+    ≡ unless_at first made (position_from is_filled k texts)
 unless_filled-position first k [] made = refl
 unless_filled-position first k (text ∷ texts) made =
     filled_next first k text.now texts made (unless_filled-position first (k + 1) texts made)

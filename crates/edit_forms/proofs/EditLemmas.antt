@@ -1,5 +1,6 @@
 -- Edits so far, before those of the records that are left.
-use Rattle.std.proofs.Common.{◌≡◌, ◌≤◌, ℕ, suc, List, [], ◌∷◌, ◌++◌, drop, length, slice_get, Some, None, Result, Ok, Err, refl, ap, sym, subst, append_assoc, append-nil, arith}
+use Rattle.std.proofs.Common.{◌≡◌, ◌≤◌, ℕ, suc, List, [], ◌∷◌, ◌++◌, drop, length, slice_get, Some, None, Result, Ok}
+use Rattle.std.proofs.Common.{Err, refl, ap, sym, subst, append_assoc, append-nil, arith}
 use Rattle.csv.specs.Reading.{default_config, records, strip_bom}
 use Rattle.alto_edits.specs.declared.edit.Edit.{Edit}
 use Rattle.edit_forms.specs.declared.fault.FormFault.{FormFault}
@@ -13,8 +14,10 @@ after_edits edits (Ok more) = Ok (edits ++ more)
 after_edits edits (Err fault) = Err fault
 
 -- whatever the records that are left read as, all read as the edits so far and that
-pub record GoesOn (all : List (List (List ℕ))) (edits : List Edit) (row : ℕ) (left : List (List (List ℕ))) : Type 0 where
-  pub goes_on : (read : Result (List Edit) FormFault) → RecordsRead row left read → RecordsRead 1 all (after_edits edits read)
+pub record GoesOn (all : List (List (List ℕ))) (edits : List Edit) (row : ℕ)
+    (left : List (List (List ℕ))) : Type 0 where
+  pub goes_on : (read : Result (List Edit) FormFault) → RecordsRead row left read
+      → RecordsRead 1 all (after_edits edits read)
 
 -- at the start all are left
 after_edits-nil : (read : Result (List Edit) FormFault) → read ≡ after_edits [] read
@@ -31,7 +34,8 @@ after_edits-before edits made (Ok more) = ap Ok (sym (append_assoc edits (made �
 after_edits-before edits made (Err fault) = refl
 
 -- a record that reads goes to the edits so far
-pub one_more : (all : List (List (List ℕ))) (edits : List Edit) (made : Edit) (row next : ℕ) (left : List (List (List ℕ)))
+pub one_more : (all : List (List (List ℕ))) (edits : List Edit) (made : Edit) (row next : ℕ)
+    (left : List (List (List ℕ)))
     (fields : List (List ℕ)) → Some fields ≡ slice_get left 0 → RecordReads row fields (Ok made) → next ≡ suc row
     → GoesOn all edits row left → GoesOn all (edits ++ made ∷ []) next (drop 1 left)
 one_more all edits made row next [] fields at_hand read numbered on = cc at_hand
@@ -43,7 +47,8 @@ one_more all edits made row next (found ∷ left) fields at_hand read numbered o
     }
 
 -- a record that doesn't read is the fault of all
-pub first_fault : (all : List (List (List ℕ))) (edits : List Edit) (fault : FormFault) (row : ℕ) (left : List (List (List ℕ)))
+pub first_fault : (all : List (List (List ℕ))) (edits : List Edit) (fault : FormFault) (row : ℕ)
+    (left : List (List (List ℕ)))
     (fields : List (List ℕ)) → Some fields ≡ slice_get left 0 → RecordReads row fields (Err fault)
     → GoesOn all edits row left → RecordsRead 1 all (Err fault)
 first_fault all edits fault row [] fields at_hand read on = cc at_hand
@@ -54,16 +59,19 @@ first_fault all edits fault row (found ∷ left) fields at_hand read on =
 -- where no record is left the edits so far are all
 pub no_more : (all : List (List (List ℕ))) (edits : List Edit) (row : ℕ) (left : List (List (List ℕ)))
     → slice_get left 0 ≡ None → GoesOn all edits row left → RecordsRead 1 all (Ok edits)
-no_more all edits row [] at_hand on = subst (λ (made : List Edit). RecordsRead 1 all (Ok made)) (append-nil edits) (on.goes_on (Ok []) refl)
+no_more all edits row [] at_hand on = subst (λ (made : List Edit). RecordsRead 1 all (Ok made)) (append-nil edits)
+    (on.goes_on (Ok []) refl)
 no_more all edits row (found ∷ left) at_hand on = cc at_hand
 
 -- records with a fault are a body's
-pub body_fault : (records : List (List (List ℕ))) (fault : FormFault) → RecordsRead 1 records (Err fault) → BodyReads records (Err fault)
+pub body_fault : (records : List (List (List ℕ))) (fault : FormFault) → RecordsRead 1 records (Err fault)
+    → BodyReads records (Err fault)
 body_fault [] fault h = cc h
 body_fault (first ∷ more) fault h = h
 
 -- records with an edit are a body's
-pub body_edits : (records : List (List (List ℕ))) (edits : List Edit) → RecordsRead 1 records (Ok edits) → 1 ≤ length edits
+pub body_edits : (records : List (List (List ℕ))) (edits : List Edit) → RecordsRead 1 records (Ok edits)
+    → 1 ≤ length edits
     → BodyReads records (Ok edits)
 body_edits [] edits h some =
     let same : edits ≡ [] = cc h in

@@ -1,5 +1,6 @@
 -- A record's fields by their places.
-use Rattle.std.proofs.Common.{◌≡◌, ◌<◌, ℕ, zero, suc, List, [], ◌∷◌, length, Option, Some, None, IsSome, Bor, refl, arith}
+use Rattle.std.proofs.Common.{◌≡◌, ◌<◌, ℕ, zero, suc, List, [], ◌∷◌, length, Option, Some, None, IsSome, Bor, refl}
+use Rattle.std.proofs.Common.{arith}
 use Rattle.std.specs.Prelude.{option_map}
 use Rattle.csv.specs.Records.{field_at}
 
@@ -11,7 +12,8 @@ field_at-some (field ∷ fields) zero h = refl
 field_at-some (field ∷ fields) (suc place) h = field_at-some fields place (omega arith)
 
 -- what is there as bytes is there
-pub some_seen : (field : Option (Bor (List ℕ))) (seen : Option (List ℕ)) → option_map (λ text. text.now) field ≡ seen → IsSome seen → IsSome field
+pub some_seen : (field : Option (Bor (List ℕ))) (seen : Option (List ℕ)) → option_map (λ text. text.now) field ≡ seen
+    → IsSome seen → IsSome field
 some_seen None seen e known = cc (e, known)
 some_seen (Some text) seen e known = refl
 

@@ -1,5 +1,6 @@
 -- Records read one after another are the records of the text.
-use Rattle.std.proofs.Common.{◌≡◌, ◌∙◌, sym, ◌<◌, ◌⊎◌, inl, inr, ℕ, zero, suc, ◌+◌, Bool, true, false, cond, List, [], ◌∷◌, ◌++◌, length, Option, Some, None, IsSome, Bor, refl, ap, add-one, arith}
+use Rattle.std.proofs.Common.{◌≡◌, ◌∙◌, sym, ◌<◌, ◌⊎◌, inl, inr, ℕ, zero, suc, ◌+◌, Bool, true, false, cond, List, []}
+use Rattle.std.proofs.Common.{◌∷◌, ◌++◌, length, Option, Some, None, IsSome, Bor, refl, ap, add-one, arith}
 use Rattle.csv.specs.Machine.{Read, ends_at_end, field_after, fields_after, is_end, next_record, step}
 use Rattle.csv.specs.Reading.{NextIs, ReadRecord, ReadsNext, default_config, pending_of, records_from, records_next}
 use Rattle.csv.specs.declared.parser.State.{State}
@@ -42,7 +43,8 @@ no_bytes zero = refl
 no_bytes (suc n) = refl
 
 -- two bounds on the number of records, each past the number of bytes, give the same records after a read
-same_next : (n m : ℕ) (bytes : List ℕ) (next : Option Read) → LeavesLess bytes next → length bytes < suc n → length bytes < suc m
+same_next : (n m : ℕ) (bytes : List ℕ) (next : Option Read) → LeavesLess bytes next → length bytes < suc n
+    → length bytes < suc m
     → ((state : State) (left : List ℕ) → length left < n → length left < m
     → records_from default_config n state left ≡ records_from default_config m state left)
     → records_next (records_from default_config n) next ≡ records_next (records_from default_config m) next
@@ -67,20 +69,23 @@ after_read : (n : ℕ) (bytes : List ℕ) (next : Option Read) → LeavesLess by
     → records_next (records_from default_config n) next ≡ records_next (λ state left. records_of state (Some left)) next
 after_read n bytes None less in_n = refl
 after_read n bytes (Some read) (inl less) in_n =
-    ap (λ (rest : List (List (List ℕ))). read.0 ∷ rest) (records_from-bound n (length read.2 + 1) read.1 read.2 (omega arith) (omega arith))
+    ap (λ (rest : List (List (List ℕ))). read.0 ∷ rest)
+    (records_from-bound n (length read.2 + 1) read.1 read.2 (omega arith) (omega arith))
 after_read n bytes (Some read) (inr last) in_n =
     ap (λ (rest : List (List (List ℕ))). read.0 ∷ rest) (rw (last.0, last.1) (no_bytes n ∙ sym (no_bytes 1)))
 
 -- the records of bytes are the first and those of the bytes after it
 pub records_of-next : (state : State) (bytes : List ℕ)
-    → records_of state (Some bytes) ≡ records_next (λ next left. records_of next (Some left)) (next_record default_config state [] [] bytes)
+    → records_of state (Some bytes) ≡ records_next (λ next left. records_of next (Some left))
+    (next_record default_config state [] [] bytes)
 unfolding records_from
 records_of-next state bytes =
     rw (add-one (length bytes)) (after_read (length bytes) bytes _ (leaves_less state [] [] bytes) (omega arith))
 
 by_next : (next : Option Read) (found : Bool) (fields : List (List ℕ)) (state : State) (left : List ℕ)
     → NextIs next found fields state left
-    → records_next (λ state left. records_of state (Some left)) next ≡ from_here found fields (records_of state (Some left))
+    → records_next (λ state left. records_of state (Some left)) next
+    ≡ from_here found fields (records_of state (Some left))
 by_next None found fields state left h = rw h refl
 by_next (Some read) found fields state left h = rw (h.0, h.1, h.2, h.3) refl
 
@@ -97,4 +102,5 @@ pub unread-read : (old new : Reader (Bor (List ℕ))) (found : Bool) (fields : L
     → IsPlain old → ReadRecord (λ bytes. Some bytes.now) old new found fields
     → unread old ≡ from_here found fields (unread new)
 unread-read old new found fields plain read =
-    rw read.1 (by_source old.state new.state _ (pending_of (Some new.rdr.now) new) found fields plain.source (rw plain.config at read.0))
+    rw read.1 (by_source old.state new.state _ (pending_of (Some new.rdr.now) new) found fields
+    plain.source (rw plain.config at read.0))

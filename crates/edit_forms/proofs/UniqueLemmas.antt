@@ -1,5 +1,6 @@
 -- Columns, records and bodies read in one way at most.
-use Rattle.std.proofs.Common.{◌≡◌, ℕ, suc, inl, List, [], ◌∷◌, Option, Some, None, Result, Ok, Err, ◌∙◌, refl, sym, ap, subst, get_or, arith}
+use Rattle.std.proofs.Common.{◌≡◌, ℕ, suc, inl, List, [], ◌∷◌, Option, Some, None, Result, Ok, Err, ◌∙◌, refl, sym, ap}
+use Rattle.std.proofs.Common.{subst, get_or, arith}
 use Rattle.std.specs.Prelude.{codes}
 use Rattle.csv.specs.Reading.{default_config, records, strip_bom}
 use Rattle.serde_json.specs.Data.{Data, Items}
@@ -57,7 +58,8 @@ one_value : (kind : ValueKind) (text : List ℕ) → OneWay (WritesValue kind te
 one_value kind.Text text (property.Text one) (property.Text other) h k = ap property.Text (h.0 ∙ sym k.0)
 one_value kind.Text text (property.Text one) (property.Number other) h k = absurd k
 one_value kind.Text text (property.Number one) other h k = absurd h
-one_value kind.Number text (property.Number one) (property.Number other) h k = ap property.Number (one_amount text one other h k)
+one_value kind.Number text (property.Number one) (property.Number other) h k =
+    ap property.Number (one_amount text one other h k)
 one_value kind.Number text (property.Number one) (property.Text other) h k = absurd k
 one_value kind.Number text (property.Text one) other h k = absurd h
 
@@ -73,8 +75,10 @@ then_once : {A : Type 0} (column : ℕ) (Writes : A → Type 0) (Rest : A → Re
     → ((value : A) → Writes value → OneWay (Rest value)) → OneWay (Then column Writes Rest)
 then_once column Writes Rest value_once rest_once one other (reads v writes rest) (reads w writes_too rest_too) =
     rest_once w writes_too one other (subst (λ x. Rest x one) (value_once v w writes writes_too) rest) rest_too
-then_once column Writes Rest value_once rest_once one other (reads v writes rest) (fails none e) = absurd (none v writes)
-then_once column Writes Rest value_once rest_once one other (fails none e) (reads v writes rest) = absurd (none v writes)
+then_once column Writes Rest value_once rest_once one other (reads v writes rest) (fails none e) =
+    absurd (none v writes)
+then_once column Writes Rest value_once rest_once one other (fails none e) (reads v writes rest) =
+    absurd (none v writes)
 then_once column Writes Rest value_once rest_once one other (fails none e) (fails none_too e_too) = e ∙ sym e_too
 
 ends_once : (end one other : Result Edit ℕ) → one ≡ end → other ≡ end → one ≡ other
@@ -101,7 +105,8 @@ reads_once op.PropPut net a b c d is =
     then_once _ _ _ (λ one other. one_entity net a one other is) (λ entity w. then_once _ _ _ (one_name _) (λ name w.
     then_once _ _ _ (one_kind c) (λ kind w. then_once _ _ _ (one_value kind d) (λ value w. ends_once _))))
 reads_once op.PropDel net a b c d is =
-    then_once _ _ _ (λ one other. one_entity net a one other is) (λ entity w. then_once _ _ _ (one_name _) (λ name w. ends_once _))
+    then_once _ _ _ (λ one other. one_entity net a one other is)
+    (λ entity w. then_once _ _ _ (one_name _) (λ name w. ends_once _))
 reads_once op.AneAdd net a b c d is = then_once _ _ _ (one_name _) (λ ane w. ends_once _)
 reads_once op.AneSet net a b c d is =
     then_once _ _ _ (one_name _) (λ ane w. then_once _ _ _ (one_bandwidth b) (λ name w.
@@ -112,7 +117,8 @@ reads_once op.PathPut net a b c d is =
 reads_once op.PathDel net a b c d is =
     then_once _ _ _ (one_name _) (λ source w. then_once _ _ _ (one_name _) (λ destination w. ends_once _))
 
-one_operation : (text : List ℕ) (one other : Operation) → operation_in text ≡ Some one → operation_in text ≡ Some other → one ≡ other
+one_operation : (text : List ℕ) (one other : Operation) → operation_in text ≡ Some one
+    → operation_in text ≡ Some other → one ≡ other
 one_operation text one other h k = cc (h, k)
 
 columns_once : (op net a b c d : List ℕ) → OneWay (ColumnsRead op net a b c d)
@@ -127,9 +133,11 @@ record_once row (op ∷ net ∷ a ∷ b ∷ c ∷ d ∷ []) one other h k =
     h.2 ∙ ap (in_row row) (columns_once op net a b c d h.0 k.0 h.1 k.1) ∙ sym k.2
 record_once row _ one other h k = h ∙ sym k
 
-first_once : (Record : Result Edit FormFault → Type 0) (Rest : Result (List Edit) FormFault → Type 0) → OneWay Record → OneWay Rest
+first_once : (Record : Result Edit FormFault → Type 0) (Rest : Result (List Edit) FormFault → Type 0)
+    → OneWay Record → OneWay Rest
     → OneWay (First Record Rest)
-first_once Record Rest record_one rest_one one other (edits.reads made more h rest e) (edits.reads made_too more_too k rest_too e_too) =
+first_once Record Rest record_one rest_one one other (edits.reads made more h rest e)
+    (edits.reads made_too more_too k rest_too e_too) =
     let same : made ≡ made_too = cc (record_one (Ok made) (Ok made_too) h k) in
     e ∙ rw (same, rest_one more more_too rest rest_too) (sym e_too)
 first_once Record Rest record_one rest_one one other (edits.reads made more h rest e) (edits.fails fault k e_too) =
@@ -143,7 +151,8 @@ first_once Record Rest record_one rest_one one other (edits.fails fault h e) (ed
 records_once : (row : ℕ) (records : List (List (List ℕ))) → OneWay (RecordsRead row records)
 records_once row [] = λ one other h k. h ∙ sym k
 records_once row (fields ∷ more) =
-    first_once (RecordReads row fields) (RecordsRead (suc row) more) (record_once row fields) (records_once (suc row) more)
+    first_once (RecordReads row fields) (RecordsRead (suc row) more) (record_once row fields)
+    (records_once (suc row) more)
 
 body_once : (records : List (List (List ℕ))) → OneWay (BodyReads records)
 body_once [] = λ one other h k. h ∙ sym k

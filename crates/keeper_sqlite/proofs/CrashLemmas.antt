@@ -1,5 +1,6 @@
 -- What a crash finds of the records while the statements run, and which records it leaves then.
-use Rattle.std.proofs.Common.{◌≡◌, ◌⊎◌, inl, inr, ℕ, ℤ, pos, ◌≤ℤ◌, List, [], ◌∷◌, map, Result, Ok, Err, OnOk, IsTrue, Bool, false, refl, sym, ap, subst, ◌∙◌}
+use Rattle.std.proofs.Common.{◌≡◌, ◌⊎◌, inl, inr, ℕ, ℤ, pos, ◌≤ℤ◌, List, [], ◌∷◌, map, Result, Ok, Err, OnOk, IsTrue}
+use Rattle.std.proofs.Common.{Bool, false, refl, sym, ap, subst, ◌∙◌}
 use Rattle.std.specs.Prelude.{⊤}
 use Rattle.std.specs.List.{AllByRecursion}
 use Rattle.sqlite_keyed.proofs.ListLemmas.{all-append, all-filter}
@@ -9,11 +10,13 @@ use Rattle.sqlite.specs.Tree.{Trees}
 use Rattle.sqlite.specs.Held.{Held, state}
 use Rattle.sqlite.specs.Effect.{Database}
 use Rattle.sqlite.specs.State.{State, HasCleanDisk, CommitsBy, CommitsShowing, Survives, Shows}
-use Rattle.alto_keeper.specs.Stored.{RowData, StoredData, IsNext, IsKept, IsKeptOrAdded, IsKeptOrRebased, LeavesFrom, LeavesOnly, with_row, rebased}
+use Rattle.alto_keeper.specs.Stored.{RowData, StoredData, IsNext, IsKept, IsKeptOrAdded, IsKeptOrRebased, LeavesFrom}
+use Rattle.alto_keeper.specs.Stored.{LeavesOnly, with_row, rebased}
 use Rattle.keeper_sqlite.specs.Store.{HasRows, table_row, all_rows, table_rows}
 use Rattle.keeper_sqlite.specs.Reading.{record_in, stored_in, records_in}
 use Rattle.keeper_sqlite.specs.Texts.{create_text, select_text, insert_text}
-use Rattle.keeper_sqlite.specs.SqlKeeper.{SqlKeeperData, IsClean, IsSure, IsFaithful, Holds, HoldsIn, HoldsRows, MayLeave, IsSettled, Settles, CrashFinds, CrashKeeps, CrashAdds, CrashMoves}
+use Rattle.keeper_sqlite.specs.SqlKeeper.{SqlKeeperData, IsClean, IsSure, IsFaithful, Holds, HoldsIn, HoldsRows}
+use Rattle.keeper_sqlite.specs.SqlKeeper.{MayLeave, IsSettled, Settles, CrashFinds, CrashKeeps, CrashAdds, CrashMoves}
 use Rattle.keeper_sqlite.proofs.TableLemmas.{base_from, read_back}
 use Rattle.keeper_sqlite.proofs.StatementLemmas.{create_left, row_left, shows_nothing}
 
@@ -183,7 +186,8 @@ module _ {S : Type 0} (g : Ghosts S) (old new : SqlKeeperData S) where
       → IsSure g new × LeavesOnly (MayLeave g new) kept))
   kept_settled (Ok value) settled = λ clean. (
     (settled clean).0,
-    λ kept holds. settled_left kept (held_keepable old.is_made (state g old.conn) kept holds) ((settled clean).1 kept holds tt),
+    λ kept holds. settled_left kept (held_keepable old.is_made (state g old.conn) kept holds)
+        ((settled clean).1 kept holds tt),
   )
   kept_settled (Err e) settled = tt
 

@@ -1,5 +1,8 @@
 -- What the statements do to the records in a database.
-use Rattle.std.proofs.Common.{◌≡◌, ◌⊎◌, inl, inr, ℕ, ℤ, pos, ◌-ℤ◌, ◌<ℤ◌, ◌≤ℤ◌, List, [], ◌∷◌, ◌++◌, length, Bool, true, false, cond, not, ◌&&◌, int_le, int_eq, Option, Some, None, Ok, Err, Result, append-nil, map, filter, flat_map, IsTrue, IsSome, OnOk, OnErr, IfErr, IsPermutation, refl, sym, ap, ap₂, subst, ◌∙◌, arith}
+use Rattle.std.proofs.Common.{◌≡◌, ◌⊎◌, inl, inr, ℕ, ℤ, pos, ◌-ℤ◌, ◌<ℤ◌, ◌≤ℤ◌, List, [], ◌∷◌, ◌++◌, length, Bool, true}
+use Rattle.std.proofs.Common.{false, cond, not, ◌&&◌, int_le, int_eq, Option, Some, None, Ok, Err, Result, append-nil}
+use Rattle.std.proofs.Common.{map, filter, flat_map, IsTrue, IsSome, OnOk, OnErr, IfErr, IsPermutation, refl, sym, ap}
+use Rattle.std.proofs.Common.{ap₂, subst, ◌∙◌, arith}
 use Rattle.std.specs.List.{list_all}
 use Rattle.std.proofs.lemmas.Int.{ints}
 use Rattle.std.proofs.lemmas.Bool.{cases_Bool}
@@ -17,7 +20,8 @@ use Rattle.std.specs.Ordering.{ordering_then}
 use Rattle.sqlite_sql.proofs.QueryLemmas.{output_cmp_total}
 use Rattle.sqlite_rules.specs.Edit.{without_all, id_in}
 use Rattle.sqlite_rules.specs.Calls.{ids_of}
-use Rattle.sqlite_keyed.proofs.ListLemmas.{map-map, all-append, all-filter, ascending-filter, ascending-map, ascending_weaker}
+use Rattle.sqlite_keyed.proofs.ListLemmas.{map-map, all-append, all-filter, ascending-filter, ascending-map}
+use Rattle.sqlite_keyed.proofs.ListLemmas.{ascending_weaker}
 use Rattle.sqlite_keyed.proofs.SortLemmas.{sorted_unique}
 use Rattle.sqlite.specs.Query.{end, IsAnswer, output, output_cmp, page, matches_as, Output}
 use Rattle.sqlite.specs.Program.{overlay}
@@ -27,7 +31,9 @@ use Rattle.sqlite.specs.Ops.{unary}
 use Rattle.sqlite.specs.Tree.{Trees, put_row}
 use Rattle.sqlite.specs.Source.TheVariants.{Values}
 use Rattle.sqlite.specs.Command.{Command}
-use Rattle.sqlite.specs.Command.TheVariants.{Select, Insert, InsertOr, Update, Delete, CreateTable, CreateIndex, DropTable, DropIndex, Begin, Commit, Rollback, Savepoint as Save, Release, RollbackTo, Nothing, CreateView, DropView, Rows}
+use Rattle.sqlite.specs.Command.TheVariants.{Select, Insert, InsertOr, Update, Delete, CreateTable, CreateIndex}
+use Rattle.sqlite.specs.Command.TheVariants.{DropTable, DropIndex, Begin, Commit, Rollback, Savepoint as Save, Release}
+use Rattle.sqlite.specs.Command.TheVariants.{RollbackTo, Nothing, CreateView, DropView, Rows}
 use Rattle.sqlite.specs.Edit.{edit_of, edited}
 use Rattle.sqlite.specs.Cast.{cast}
 use Rattle.sqlite.specs.Kind.TheVariants.{Integer}
@@ -39,18 +45,25 @@ use Rattle.sqlite.specs.Effect.{Database}
 use Rattle.sqlite.specs.Listing.{understood}
 use Rattle.sqlite_resolve.specs.declared.compiled.Compiled.{Compiled}
 use Rattle.sqlite_schema.specs.declared.command.Returning.{Returning}
-use Rattle.sqlite.specs.State.{State, mode_of, Writes, Runs, RunsCommand, Executes, ExecutesIn, IsNotRun, IsUnchanged, IsRolledBack, FailsToQuery, FailsToShow, Shown, ShowsRows, CommitsBy, CommitsShowing, text_of, shows_rows}
+use Rattle.sqlite.specs.State.{State, mode_of, Writes, Runs, RunsCommand, Executes, ExecutesIn, IsNotRun, IsUnchanged}
+use Rattle.sqlite.specs.State.{IsRolledBack, FailsToQuery, FailsToShow, Shown, ShowsRows, CommitsBy, CommitsShowing}
+use Rattle.sqlite.specs.State.{text_of, shows_rows}
 use Rattle.sqlite.specs.declared.run.Mode.{Mode}
 use Rattle.sqlite.specs.Order.{Row}
 use Rattle.sqlite.specs.declared.error.Error.{Error}
 use Rattle.sqlite.proofs.Callers.{IsPlain, command_of, runs_as, reads_as, one_step, statement_of}
 use Rattle.alto_keeper.specs.Stored.{RowData, StoredData, IsNext, with_row, rebased, nothing}
-use Rattle.keeper_sqlite.specs.Store.{alto_table, alto_schema, no_schema, table_row, all_rows, table_rows, with_base, HasRows}
+use Rattle.keeper_sqlite.specs.Store.{alto_table, alto_schema, no_schema, table_row, all_rows, table_rows, with_base}
+use Rattle.keeper_sqlite.specs.Store.{HasRows}
 use Rattle.keeper_sqlite.specs.Reading.{shown_in}
 use Rattle.keeper_sqlite.specs.SqlKeeper.{IsIdle, HoldsRows, HoldsIn}
 use Rattle.keeper_sqlite.specs.Texts.{create_text, select_text, insert_text, delete_text}
-use Rattle.keeper_sqlite.proofs.TextLemmas.{terms, create_first, create_first_text, create_first_plain, create_defines, create_again, create_again_plain, insert_is, insert_plain, shown_rows, select_is, select_plain, select_unlisted, tests, taken_rows, delete_is, delete_plain}
-use Rattle.keeper_sqlite.proofs.TableLemmas.{below, put_next, rising_next, base_from, put_piece, rising_piece, is_gone, without_gone, rows_left}
+use Rattle.keeper_sqlite.proofs.TextLemmas.{terms, create_first, create_first_text, create_first_plain, create_defines}
+use Rattle.keeper_sqlite.proofs.TextLemmas.{create_again, create_again_plain, insert_is, insert_plain, shown_rows}
+use Rattle.keeper_sqlite.proofs.TextLemmas.{select_is, select_plain, select_unlisted, tests, taken_rows, delete_is}
+use Rattle.keeper_sqlite.proofs.TextLemmas.{delete_plain}
+use Rattle.keeper_sqlite.proofs.TableLemmas.{below, put_next, rising_next, base_from, put_piece, rising_piece, is_gone}
+use Rattle.keeper_sqlite.proofs.TableLemmas.{without_gone, rows_left}
 
 -- ---- how a call ends
 

@@ -1,5 +1,7 @@
 -- The rows of the table: the next one, one more piece, those that a base takes in, and what they are read as.
-use Rattle.std.proofs.Common.{◌≡◌, ℕ, zero, suc, ◌+◌, ℤ, ◌<ℤ◌, ◌≤ℤ◌, ◌-ℤ◌, pos, int_eq, int_le, int_lt, Bool, true, false, cond, not, ◌&&◌, ◌||◌, List, [], ◌∷◌, ◌++◌, length, map, reverse, filter, fold, All, refl, sym, ap, ap₂, subst, ◌∙◌, arith, append-nil, IsPermutation}
+use Rattle.std.proofs.Common.{◌≡◌, ℕ, zero, suc, ◌+◌, ℤ, ◌<ℤ◌, ◌≤ℤ◌, ◌-ℤ◌, pos, int_eq, int_le, int_lt, Bool, true}
+use Rattle.std.proofs.Common.{false, cond, not, ◌&&◌, ◌||◌, List, [], ◌∷◌, ◌++◌, length, map, reverse, filter, fold}
+use Rattle.std.proofs.Common.{All, refl, sym, ap, ap₂, subst, ◌∙◌, arith, append-nil, IsPermutation}
 use Rattle.std.specs.List.{AllByRecursion, list_any}
 use Rattle.std.specs.declared.cmp.Ordering.TheVariants.{Less, Greater}
 use Rattle.std.specs.Ordering.{match_ordering, is_eq}
@@ -10,7 +12,8 @@ use Rattle.std.proofs.lemmas.List.Sorted.{list_any-IsPermutation}
 use Rattle.std.proofs.lemmas.Bool.Decides.{nat_tests}
 use Rattle.sqlite_value.proofs.OrderLemmas.{value_cmp-Int}
 use Rattle.sqlite_keyed.specs.Lists.{without_key, delete_where}
-use Rattle.sqlite_keyed.proofs.ListLemmas.{map-map, filter-map, all_weaker, all_map, all-append, all-filter, filter_all, filter_none, filter_same, ascending-append}
+use Rattle.sqlite_keyed.proofs.ListLemmas.{map-map, filter-map, all_weaker, all_map, all-append, all-filter, filter_all}
+use Rattle.sqlite_keyed.proofs.ListLemmas.{filter_none, filter_same, ascending-append}
 use Rattle.sqlite_keyed.proofs.WriteLemmas.{removes_delete}
 use Rattle.sqlite_trees.specs.Tree.{IsAscending, put_row, has_rowid, without_rowid}
 use Rattle.sqlite_rules.specs.Edit.{without_all}

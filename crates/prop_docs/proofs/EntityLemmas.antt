@@ -26,6 +26,7 @@ outside net (key.Prop of entity name, v) out = rw out refl
 outside net _ out = refl
 
 -- all rows of a network's properties give all texts
-pub all_texts : (net : Name) (rows : Rows) → with_texts [] (filter_map (entity_in net) (rows_in rows (span.Props net))) ≡ entities_of rows net
+pub all_texts : (net : Name) (rows : Rows) → with_texts [] (filter_map (entity_in net) (rows_in rows (span.Props net)))
+    ≡ entities_of rows net
 unfolding set_of
 all_texts net rows = ap (with_texts []) (sym (filter_map-rows_in (entity_in net) (span.Props net) (outside net) rows))

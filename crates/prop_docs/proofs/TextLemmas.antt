@@ -27,14 +27,18 @@ text_is : (net text : Name) (entity : Entity) → is_text_of net text entity ≡
 text_is net text entity h = same_text text (entity_text net entity) (sym h)
 
 -- so the text writes the entity
-written : (net text : Name) (entity : Entity) → IsEntity entity → is_text_of net text entity ≡ true → WritesEntity net text entity
+written : (net text : Name) (entity : Entity) → IsEntity entity → is_text_of net text entity ≡ true
+    → WritesEntity net text entity
 written net text entity is h =
     subst (λ t. WritesEntity net t entity) (sym (text_is net text entity h)) (entity_as_written net entity is)
 
 -- what was read of the bytes of a text
-pub reads_as : (net text bytes : Name) (found read : Option Entity) → bytes ≡ text → found ≡ read → ((other : Entity) → WritesEntity net bytes other ↔ (found ≡ Some other))
+pub reads_as : (net text bytes : Name) (found read : Option Entity) → bytes ≡ text → found ≡ read
+    → ((other : Entity) → WritesEntity net bytes other ↔ (found ≡ Some other))
     → (other : Entity) → WritesEntity net text other ↔ (read ≡ Some other)
-reads_as net text bytes found read same is reads other = subst (λ t. WritesEntity net t other ↔ (read ≡ Some other)) same (subst (λ f. WritesEntity net bytes other ↔ (f ≡ Some other)) is (reads other))
+reads_as net text bytes found read same is reads other =
+    subst (λ t. WritesEntity net t other ↔ (read ≡ Some other))
+    same (subst (λ f. WritesEntity net bytes other ↔ (f ≡ Some other)) is (reads other))
 
 -- a text that writes no entity is the text of none
 pub none_named : (net text : Name) → ((other : Entity) → WritesEntity net text other ↔ (None ≡ Some other))
@@ -46,7 +50,8 @@ none_named net text reads other is = by (is_text_of net text other) refl
     by false e = e
 
 -- a text that writes an entity is the text of this one or of none
-pub one_named : (net text : Name) (one : Entity) → ((other : Entity) → WritesEntity net text other ↔ (Some one ≡ Some other))
+pub one_named : (net text : Name) (one : Entity)
+    → ((other : Entity) → WritesEntity net text other ↔ (Some one ≡ Some other))
     → (other : Entity) → IsEntity other → is_text_of net text other ≡ is_found (if_text_of net text one) other
 one_named net text one reads other is = by (is_text_of net text one) (is_text_of net text other) refl refl
   where
@@ -55,12 +60,16 @@ one_named net text one reads other is = by (is_text_of net text one) (is_text_of
     same e = let both : Some one ≡ Some other = (reads other).0 (written net text other is e) in cc
 
     -- what isn't read is another
-    apart : (b : Bool) → same_entity one other ≡ b → is_text_of net text one ≡ true → is_text_of net text other ≡ false → same_entity one other ≡ false
+    apart : (b : Bool) → same_entity one other ≡ b → is_text_of net text one ≡ true → is_text_of net text other ≡ false
+        → same_entity one other ≡ false
     apart false k e f = k
-    apart true k e f = let both : is_text_of net text other ≡ true = subst (λ (x : Entity). is_text_of net text x ≡ true) (one_entity one other k) e in cc
+    apart true k e f = let both : is_text_of net text other ≡ true =
+        subst (λ (x : Entity). is_text_of net text x ≡ true) (one_entity one other k) e in cc
 
-    by : (a b : Bool) → is_text_of net text one ≡ a → is_text_of net text other ≡ b → is_text_of net text other ≡ is_found (cond (is_text_of net text one) (Some one) None) other
+    by : (a b : Bool) → is_text_of net text one ≡ a → is_text_of net text other ≡ b
+        → is_text_of net text other ≡ is_found (cond (is_text_of net text one) (Some one) None) other
     by true true e f = rw (e, f) (sym (subst (λ (x : Entity). same_entity one x ≡ true) (same f) (same_itself one)))
     by true false e f = rw (e, f) (sym (apart (same_entity one other) refl e f))
     by false false e f = rw (e, f) refl
-    by false true e f = let both : is_text_of net text one ≡ true = subst (λ (x : Entity). is_text_of net text x ≡ true) (sym (same f)) f in cc
+    by false true e f = let both : is_text_of net text one ≡ true =
+        subst (λ (x : Entity). is_text_of net text x ≡ true) (sym (same f)) f in cc

@@ -26,22 +26,30 @@ groups_in_order rows net texts = members_in_order (map (λ text. (text, group_ob
 
 -- the texts of entities stand in byte order
 pub groups_stand : (rows : Rows) (net : Name) → groups_of rows net ≡ groups_in_order rows net (entities_of rows net)
-groups_stand rows net = named-rising (group_object (prop_face net rows)) (entities_of rows net) (rise-set_of (filter_map (entity_in net) rows))
+groups_stand rows net = named-rising (group_object (prop_face net rows)) (entities_of rows net)
+    (rise-set_of (filter_map (entity_in net) rows))
 
 -- properties whose names rise stand in the order of an object
-pub props_stand : (props : List NamedValue) → IsStrictlySortedBy name_cmp (names_of props) → members_of (shown_values props) ≡ props_in_order props
+pub props_stand : (props : List NamedValue) → IsStrictlySortedBy name_cmp (names_of props)
+    → members_of (shown_values props) ≡ props_in_order props
 props_stand props rise =
     rw (found_by_name props rise) (named-rising (value_named props) (names_of props) rise)
 
 -- an object of one member
-pub object_of_one : (k : Name) (d : Data) (old begun mid new : Written) → begun.tokens ≡ old.tokens ++ begin_object ∷ [] → begun.before ≡ old.before → AddsMember k d begun mid
-    → new.tokens ≡ mid.tokens ++ end_object ∷ [] → new.before ≡ mid.before → AddsValue (object (member k d no_members)) old new
+pub object_of_one : (k : Name) (d : Data) (old begun mid new : Written) → begun.tokens ≡ old.tokens ++ begin_object ∷ []
+    → begun.before ≡ old.before → AddsMember k d begun mid
+    → new.tokens ≡ mid.tokens ++ end_object ∷ [] → new.before ≡ mid.before
+    → AddsValue (object (member k d no_members)) old new
 object_of_one k d old begun mid new opened same added closed stays =
-    whole_object (member k d no_members) old begun mid new opened same (record { tokens = member_more k d no_members begun mid added; before = added.before }) closed stays
+    whole_object (member k d no_members) old begun mid new opened
+    same (record { tokens = member_more k d no_members begun mid added; before = added.before }) closed stays
 
 -- the object of properties whose names rise, written in their order
-pub object_of_props : (props : List NamedValue) (old begun mid new : Written) → IsStrictlySortedBy name_cmp (names_of props) → begun.tokens ≡ old.tokens ++ begin_object ∷ []
-    → begun.before ≡ old.before → AddsMembers (props_in_order props) begun mid → new.tokens ≡ mid.tokens ++ end_object ∷ [] → new.before ≡ mid.before
+pub object_of_props : (props : List NamedValue) (old begun mid new : Written)
+    → IsStrictlySortedBy name_cmp (names_of props) → begun.tokens ≡ old.tokens ++ begin_object ∷ []
+    → begun.before ≡ old.before → AddsMembers (props_in_order props) begun mid
+    → new.tokens ≡ mid.tokens ++ end_object ∷ [] → new.before ≡ mid.before
     → AddsValue (props_object props) old new
 object_of_props props old begun mid new rise opened same added closed stays =
-    subst (λ ms. AddsValue (object ms) old new) (sym (props_stand props rise)) (whole_object (props_in_order props) old begun mid new opened same added closed stays)
+    subst (λ ms. AddsValue (object ms) old new) (sym (props_stand props rise))
+    (whole_object (props_in_order props) old begun mid new opened same added closed stays)

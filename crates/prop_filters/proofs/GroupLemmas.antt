@@ -18,7 +18,8 @@ abbrev pub outcome : Bool → Members → List (Name × Data) → Option Data
 outcome any before [] = cond any (Some (object before)) None
 outcome any before (m ∷ ms) = outcome true (with_member m.0 m.1 before) ms
 
-outcome_onto : (before : Members) (ms : List (Name × Data)) → outcome true before ms ≡ Some (object (with_members before ms))
+outcome_onto : (before : Members) (ms : List (Name × Data))
+    → outcome true before ms ≡ Some (object (with_members before ms))
 outcome_onto before [] = refl
 outcome_onto before (m ∷ ms) = outcome_onto (with_member m.0 m.1 before) ms
 
@@ -28,7 +29,9 @@ outcome_of_all [] = refl
 outcome_of_all (m ∷ ms) = outcome_onto (with_member m.0 m.1 no_members) ms
 
 -- the meta and the groups are the map
-pub map_shown : (rows : Rows) (net : Name) (ask : PropAskData) (meta groups : Data) → meta ≡ prop_meta net rows → groups ≡ groups_object rows net ask
+pub map_shown : (rows : Rows) (net : Name) (ask : PropAskData) (meta groups : Data) → meta ≡ prop_meta net rows
+    → groups ≡ groups_object rows net ask
     → object_of ((codes "meta", meta) ∷ (codes "property-map", groups) ∷ []) ≡ filtered_properties rows net ask
 unfolding filtered_properties
-map_shown rows net ask meta groups told shown = λ i. object_of ((codes "meta", told i) ∷ (codes "property-map", shown i) ∷ [])
+map_shown rows net ask meta groups told shown =
+    λ i. object_of ((codes "meta", told i) ∷ (codes "property-map", shown i) ∷ [])

@@ -33,7 +33,8 @@ put-twice : (k : Name) (d : Data) (ms : Members) → put k d (put k d ms) ≡ pu
 put-twice k d no_members = rw (same_text k) refl
 put-twice k d (member l e ms) = by (slice_cmp nat_cmp k l) refl (put-twice k d ms)
   where
-    by : (o : Ordering) → slice_cmp nat_cmp k l ≡ o → put k d (put k d ms) ≡ put k d ms → put k d (put k d (member l e ms)) ≡ put k d (member l e ms)
+    by : (o : Ordering) → slice_cmp nat_cmp k l ≡ o → put k d (put k d ms) ≡ put k d ms
+        → put k d (put k d (member l e ms)) ≡ put k d (member l e ms)
     by Less f below = rw (f, same_text k) refl
     by Equal f below = rw (f, f) refl
     by Greater f below = rw (f, f) (ap (member l e) below)
@@ -47,17 +48,21 @@ members_of-append : (ms more : List (Name × Data)) → members_of (ms ++ more) 
 members_of-append ms more = fold-append _ _ ms more
 
 -- an entity behind itself
-pub given_again : (front : List Entity) (one : Entity) (more : List Entity) → GiveTheSame (front ++ one ∷ more) (front ++ one ∷ one ∷ more)
+pub given_again : (front : List Entity) (one : Entity) (more : List Entity)
+    → GiveTheSame (front ++ one ∷ more) (front ++ one ∷ one ∷ more)
 given_again front one more group =
     ap members_of (filter_map-append group front (one ∷ more))
     ∙ (members_of-append (filter_map group front) (filter_map group (one ∷ more))
     ∙ (by (group one) refl
-    ∙ (sym (members_of-append (filter_map group front) (filter_map group (one ∷ one ∷ more))) ∙ sym (ap members_of (filter_map-append group front (one ∷ one ∷ more))))))
+    ∙ (sym (members_of-append (filter_map group front) (filter_map group (one ∷ one ∷ more)))
+    ∙ sym (ap members_of (filter_map-append group front (one ∷ one ∷ more))))))
   where
     by : (given : Option (Name × Data)) → group one ≡ given
-        → with_members (members_of (filter_map group front)) (filter_map group (one ∷ more)) ≡ with_members (members_of (filter_map group front)) (filter_map group (one ∷ one ∷ more))
+        → with_members (members_of (filter_map group front)) (filter_map group (one ∷ more))
+        ≡ with_members (members_of (filter_map group front)) (filter_map group (one ∷ one ∷ more))
     by None e = rw e refl
-    by (Some m) e = rw e (ap (λ before. with_members before (filter_map group more)) (sym (with_member-twice m.0 m.1 (members_of (filter_map group front)))))
+    by (Some m) e = rw e (ap (λ before. with_members before (filter_map group more))
+        (sym (with_member-twice m.0 m.1 (members_of (filter_map group front)))))
 
 -- ---- what is added
 
@@ -72,32 +77,41 @@ last_place [] one e = absurd (cc)
 last_place (x ∷ []) one e = let same : x ≡ one = cc in record { front = []; whole = ap (λ (y : Entity). y ∷ []) same }
 last_place (x ∷ next ∷ xs) one e =
     let size : length (x ∷ next ∷ xs) - 1 ≡ suc (length (next ∷ xs) - 1) = omega arith in
-    let later : slice_get (x ∷ next ∷ xs) (suc (length (next ∷ xs) - 1)) ≡ Some one = ap (slice_get (x ∷ next ∷ xs)) (sym size) ∙ e in
+    let later : slice_get (x ∷ next ∷ xs) (suc (length (next ∷ xs) - 1)) ≡ Some one =
+    ap (slice_get (x ∷ next ∷ xs)) (sym size) ∙ e in
     let rest : HasLast (next ∷ xs) one = last_place (next ∷ xs) one later in
     record { front = x ∷ rest.front; whole = ap (λ (ys : List Entity). x ∷ ys) rest.whole }
 
 -- an entity that is the last already adds nothing
-pub nothing_added : (entities : List Entity) (one : Entity) → is_found (slice_get entities (length entities - 1)) one ≡ true
+pub nothing_added : (entities : List Entity) (one : Entity)
+    → is_found (slice_get entities (length entities - 1)) one ≡ true
     → (more : List Entity) → GiveTheSame (entities ++ more) (entities ++ one ∷ more)
 nothing_added entities one found more = by (slice_get entities (length entities - 1)) refl
   where
-    by : (last : Option Entity) → slice_get entities (length entities - 1) ≡ last → GiveTheSame (entities ++ more) (entities ++ one ∷ more)
+    by : (last : Option Entity) → slice_get entities (length entities - 1) ≡ last
+        → GiveTheSame (entities ++ more) (entities ++ one ∷ more)
     by None e = let no : is_found None one ≡ true = rw e at found in absurd (cc)
     by (Some last) e =
         let is : is_found (Some last) one ≡ true = rw e at found in
         let same : last ≡ one = one_entity last one is in
         let has : HasLast entities last = last_place entities last e in
         let whole : entities ≡ has.front ++ one ∷ [] = has.whole ∙ ap (λ (x : Entity). has.front ++ x ∷ []) same in
-        rw (whole, append_assoc has.front (one ∷ []) more, append_assoc has.front (one ∷ []) (one ∷ more)) (given_again has.front one more)
+        rw (whole, append_assoc has.front (one ∷ []) more, append_assoc has.front (one ∷ []) (one ∷ more))
+        (given_again has.front one more)
 
 -- one that is pushed is added
-pub one_added : (entities after : List Entity) (one : Entity) → after ≡ entities ++ one ∷ [] → (more : List Entity) → GiveTheSame (after ++ more) (entities ++ one ∷ more)
-one_added entities after one pushed more group = ap (λ all. members_of (filter_map group all)) (ap (λ all. all ++ more) pushed ∙ append_assoc entities (one ∷ []) more)
+pub one_added : (entities after : List Entity) (one : Entity) → after ≡ entities ++ one ∷ [] → (more : List Entity)
+    → GiveTheSame (after ++ more) (entities ++ one ∷ more)
+one_added entities after one pushed more group =
+    ap (λ all. members_of (filter_map group all)) (ap (λ all. all ++ more) pushed
+    ∙ append_assoc entities (one ∷ []) more)
 
 -- ---- the entities of a network
 
 -- the list of all, row by row
-pub one_row : (net : Name) (row : Key × Value) (rows : Rows) → filter_map (entity_given net) (row ∷ rows) ≡ filter_map (entity_given net) (row ∷ []) ++ filter_map (entity_given net) rows
+pub one_row : (net : Name) (row : Key × Value) (rows : Rows)
+    → filter_map (entity_given net) (row ∷ rows) ≡ filter_map (entity_given net) (row ∷ [])
+    ++ filter_map (entity_given net) rows
 one_row net row rows = filter_map-append (entity_given net) (row ∷ []) rows
 
 -- only rows of a network's properties give an entity
@@ -106,7 +120,8 @@ no_entity net (key.Prop of entity name, v) out = rw out refl
 no_entity net _ out = refl
 
 -- and they give all
-pub entities_in_span : (net : Name) (rows : Rows) → filter_map (entity_given net) (rows_in rows (span.Props net)) ≡ filter_map (entity_given net) rows
+pub entities_in_span : (net : Name) (rows : Rows)
+    → filter_map (entity_given net) (rows_in rows (span.Props net)) ≡ filter_map (entity_given net) rows
 entities_in_span net rows = sym (filter_map-rows_in (entity_given net) (span.Props net) (no_entity net) rows)
 
 -- the same of names
@@ -119,6 +134,9 @@ abbrev pub with_names : List Name → List Name → List Name
 with_names names more = fold (λ set name. insert_key (slice_cmp nat_cmp) set name) names more
 
 -- the names of all rows
-pub names_in_span : (net : Name) (rows : Rows) → with_names [] (filter_map (name_given net) (rows_in rows (span.Props net))) ≡ set_of (filter_map (name_given net) rows)
+pub names_in_span : (net : Name) (rows : Rows)
+    → with_names [] (filter_map (name_given net) (rows_in rows (span.Props net)))
+    ≡ set_of (filter_map (name_given net) rows)
 unfolding set_of
-names_in_span net rows = ap (with_names []) (sym (filter_map-rows_in (name_given net) (span.Props net) (no_name net) rows))
+names_in_span net rows = ap (with_names [])
+    (sym (filter_map-rows_in (name_given net) (span.Props net) (no_name net) rows))

@@ -1,4 +1,5 @@
--- The longest stride from a version below the last leads by an edge within the last, and no edge from there leads further.
+-- The longest stride from a version below the last leads by an edge within the last, and no edge from there leads
+-- further.
 use Rattle.std.proofs.Common.{◌≡◌, ℕ, ◌+◌, ◌-◌, ◌%◌, ◌<◌, ◌≤◌, refl, arith}
 use Rattle.std.proofs.lemmas.Bool.Decides.{nat_tests}
 use Rattle.std.specs.Prelude.{Bool, true, false, max, filter, fold, IsTrue}
@@ -18,7 +19,8 @@ top_16 : (p : ℕ → Bool) → p 16 ≡ true → IsTop p 16
 top_16 p sixteen = record {
   passes = sixteen;
   stride = refl;
-  top = at_strides (λ stride. p stride ≡ true → stride ≤ 16) (λ h. omega arith) (λ h. omega arith) (λ h. omega arith) (λ h. omega arith) (λ h. omega arith);
+  top = at_strides (λ stride. p stride ≡ true → stride ≤ 16) (λ h. omega arith) (λ h. omega arith) (λ h. omega arith)
+      (λ h. omega arith) (λ h. omega arith);
 }
 
 -- 8 where 16 fails
@@ -26,7 +28,8 @@ top_8 : (p : ℕ → Bool) → p 8 ≡ true → p 16 ≡ false → IsTop p 8
 top_8 p eight sixteen = record {
   passes = eight;
   stride = refl;
-  top = at_strides (λ stride. p stride ≡ true → stride ≤ 8) (λ h. omega arith) (λ h. omega arith) (λ h. omega arith) (λ h. omega arith) (λ h. cc);
+  top = at_strides (λ stride. p stride ≡ true → stride ≤ 8) (λ h. omega arith) (λ h. omega arith) (λ h. omega arith)
+      (λ h. omega arith) (λ h. cc);
 }
 
 -- 4 where the greater fail
@@ -34,7 +37,8 @@ top_4 : (p : ℕ → Bool) → p 4 ≡ true → p 8 ≡ false → p 16 ≡ false
 top_4 p four eight sixteen = record {
   passes = four;
   stride = refl;
-  top = at_strides (λ stride. p stride ≡ true → stride ≤ 4) (λ h. omega arith) (λ h. omega arith) (λ h. omega arith) (λ h. cc) (λ h. cc);
+  top = at_strides (λ stride. p stride ≡ true → stride ≤ 4) (λ h. omega arith) (λ h. omega arith) (λ h. omega arith)
+      (λ h. cc) (λ h. cc);
 }
 
 -- 2 where the greater fail
@@ -42,7 +46,8 @@ top_2 : (p : ℕ → Bool) → p 2 ≡ true → p 4 ≡ false → p 8 ≡ false 
 top_2 p two four eight sixteen = record {
   passes = two;
   stride = refl;
-  top = at_strides (λ stride. p stride ≡ true → stride ≤ 2) (λ h. omega arith) (λ h. omega arith) (λ h. cc) (λ h. cc) (λ h. cc);
+  top = at_strides (λ stride. p stride ≡ true
+      → stride ≤ 2) (λ h. omega arith) (λ h. omega arith) (λ h. cc) (λ h. cc) (λ h. cc);
 }
 
 -- 1 where all others fail
@@ -57,7 +62,8 @@ top_1 p one two four eight sixteen = record {
 top_is : (p : ℕ → Bool) → p 1 ≡ true → IsTop p (fold (λ longest stride. max longest stride) 0 (filter p strides))
 top_is p one = by (p 2) (p 4) (p 8) (p 16) refl refl refl refl
   where
-    by : (two four eight sixteen : Bool) → p 2 ≡ two → p 4 ≡ four → p 8 ≡ eight → p 16 ≡ sixteen → IsTop p (fold (λ longest stride. max longest stride) 0 (filter p strides))
+    by : (two four eight sixteen : Bool) → p 2 ≡ two → p 4 ≡ four → p 8 ≡ eight → p 16 ≡ sixteen
+        → IsTop p (fold (λ longest stride. max longest stride) 0 (filter p strides))
     by true true true true b c d e = rw (one, b, c, d, e) (top_16 p e)
     by true true false true b c d e = rw (one, b, c, d, e) (top_16 p e)
     by true false true true b c d e = rw (one, b, c, d, e) (top_16 p e)
@@ -99,22 +105,26 @@ is_leads last i stride divides within = grind (arith, nat_tests)
 -- the longest stride is one
 pub longest_is : (last i : ℕ) → i < last → IsLongest last i (longest_stride last i)
 longest_is last i below =
-    let top : IsTop (leads_within last i) (longest_stride last i) = top_is (leads_within last i) (is_leads last i 1 (omega arith) (omega arith)) in
-    let leads : (i % longest_stride last i ≡ 0) × (i + longest_stride last i ≤ last) = leads_is last i (longest_stride last i) top.passes in
+    let top : IsTop (leads_within last i) (longest_stride last i) =
+    top_is (leads_within last i) (is_leads last i 1 (omega arith) (omega arith)) in
+    let leads : (i % longest_stride last i ≡ 0) × (i + longest_stride last i ≤ last) =
+    leads_is last i (longest_stride last i) top.passes in
     record {
       stride = top.stride;
       divides = leads.0;
       within = leads.1;
       longest = λ (j : ℕ) shape within.
           let onward : i < j = shape.onward in
-          let less : j - i ≤ longest_stride last i = top.top (j - i) shape.stride (is_leads last i (j - i) (start_divides i j shape) (omega arith)) in
+          let less : j - i ≤ longest_stride last i =
+          top.top (j - i) shape.stride (is_leads last i (j - i) (start_divides i j shape) (omega arith)) in
           omega arith;
     }
 
 -- a stride from a version that it divides is an edge
 pub stride_shape : (i stride : ℕ) → 0 < i → IsStride stride → i % stride ≡ 0 → IsTrue (is_shape i (i + stride))
 stride_shape i stride some = at_strides (λ stride. i % stride ≡ 0 → IsTrue (is_shape i (i + stride)))
-    (λ h. grind (arith, nat_tests)) (λ h. grind (arith, nat_tests)) (λ h. grind (arith, nat_tests)) (λ h. grind (arith, nat_tests)) (λ h. grind (arith, nat_tests))
+    (λ h. grind (arith, nat_tests)) (λ h. grind (arith, nat_tests)) (λ h. grind (arith, nat_tests))
+    (λ h. grind (arith, nat_tests)) (λ h. grind (arith, nat_tests))
     stride
 
 -- and so is each step

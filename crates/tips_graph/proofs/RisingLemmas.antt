@@ -23,13 +23,15 @@ less_tests Equal h = cc
 less_tests Greater h = cc
 
 -- a walk over the keys behind the first begins with all
-pub rising_begun : (keys : List Key) (first : Key) (rest : List Key) → keys ≡ first ∷ rest → IsStrictlySortedBy key_cmp (first ∷ drop 0 rest)
+pub rising_begun : (keys : List Key) (first : Key) (rest : List Key) → keys ≡ first ∷ rest
+    → IsStrictlySortedBy key_cmp (first ∷ drop 0 rest)
     → IsStrictlySortedBy key_cmp keys
 rising_begun keys first [] whole sorted = rw whole sorted
 rising_begun keys first (next ∷ rest) whole sorted = rw whole sorted
 
 -- goes on where the next key is after the last
-pub rising_step : (last key : Key) (rest : List Key) (i : ℕ) → i < length rest → key ≡ get_or rest i key → is_lt (key_cmp last key) ≡ true
+pub rising_step : (last key : Key) (rest : List Key) (i : ℕ) → i < length rest → key ≡ get_or rest i key
+    → is_lt (key_cmp last key) ≡ true
     → IsStrictlySortedBy key_cmp (key ∷ drop (i + 1) rest) → IsStrictlySortedBy key_cmp (last ∷ drop i rest)
 rising_step last key rest i within is before sorted =
     let more = drop (i + 1) rest in
@@ -39,12 +41,15 @@ rising_step last key rest i within is before sorted =
     (sorted_more last (key ∷ more) (less, past_lesser last key less more (sorted_head key_cmp key more sorted)) sorted)
 
 -- and ends behind the last
-pub rising_ended : (last : Key) (rest : List Key) (i : ℕ) → length rest ≤ i → IsStrictlySortedBy key_cmp (last ∷ drop i rest)
+pub rising_ended : (last : Key) (rest : List Key) (i : ℕ) → length rest ≤ i
+    → IsStrictlySortedBy key_cmp (last ∷ drop i rest)
 rising_ended last rest i ended =
-    subst (λ (left : List Key). IsStrictlySortedBy key_cmp (last ∷ left)) (sym (drop_all i rest ended)) (sorted_more last [] tt none_sorted)
+    subst (λ (left : List Key). IsStrictlySortedBy key_cmp (last ∷ left)) (sym (drop_all i rest ended))
+    (sorted_more last [] tt none_sorted)
 
 -- the set of two parts is the set of all
-pub parts_set : (keys front back older newer : List Key) (i : ℕ) → front ≡ take i keys → back ≡ drop i keys → older ≡ key_set front → newer ≡ key_set back
+pub parts_set : (keys front back older newer : List Key) (i : ℕ) → front ≡ take i keys → back ≡ drop i keys
+    → older ≡ key_set front → newer ≡ key_set back
     → key_set (older ++ newer) ≡ key_set keys
 parts_set keys front back older newer i one two first second =
     let sets : older ++ newer ≡ key_set front ++ key_set back = rw (first, second) refl in

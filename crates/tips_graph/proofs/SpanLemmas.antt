@@ -1,10 +1,13 @@
 -- The keys of an edge that can be had are those of the pushes between, and so those of its list where it is kept.
-use Rattle.std.proofs.Common.{◌≡◌, ◌≢◌, ℕ, ◌+◌, ◌-◌, ◌%◌, ◌<◌, ◌≤◌, length, take, drop, refl, sym, ap, ◌∙◌, arith, suc, zero}
+use Rattle.std.proofs.Common.{◌≡◌, ◌≢◌, ℕ, ◌+◌, ◌-◌, ◌%◌, ◌<◌, ◌≤◌, length, take, drop, refl, sym, ap, ◌∙◌, arith, suc}
+use Rattle.std.proofs.Common.{zero}
 use Rattle.std.proofs.lemmas.Bool.Decides.{nat_tests}
-use Rattle.std.specs.Prelude.{Bool, true, false, nat_lt, List, [], ◌∷◌, Option, Some, None, IfSome, option_map, slice_get, if◌then◌else◌, IsTrue}
+use Rattle.std.specs.Prelude.{Bool, true, false, nat_lt, List, [], ◌∷◌, Option, Some, None, IfSome, option_map}
+use Rattle.std.specs.Prelude.{slice_get, if◌then◌else◌, IsTrue}
 use Rattle.alto_rows.specs.declared.key.Key.{Key}
 use Rattle.tips_graph.specs.Edges.{is_shape, edge_status}
-use Rattle.tips_graph.specs.Graph.{GraphData, Push, first_of, last_of, keeps, status_of, is_step_here, pushes_between, span_of}
+use Rattle.tips_graph.specs.Graph.{GraphData, Push, first_of, last_of, keeps, status_of, is_step_here, pushes_between}
+use Rattle.tips_graph.specs.Graph.{span_of}
 use Rattle.tips_graph.specs.Keys.{key_set}
 use Rattle.tips_graph.specs.Shortcuts.{StepData, HasLists, IsStride, list_of, before_kept}
 use Rattle.tips_graph.specs.Table.{IsPast}
@@ -21,7 +24,11 @@ pub record IsShape (i j : ℕ) : Type 0 where
 
 -- what an edge between versions is
 pub shape_is : (i j : ℕ) → i ≢ 0 → IsTrue (is_shape i j) → IsShape i j
-shape_is i j some shape = record { onward = grind (arith, nat_tests); stride = grind (arith, nat_tests); divides = grind (arith, nat_tests) }
+shape_is i j some shape = record {
+  onward = grind (arith, nat_tests);
+  stride = grind (arith, nat_tests);
+  divides = grind (arith, nat_tests);
+}
 
 -- an edge leads onward, to a number from the first to the last
 pub record LeadsOnward (first last i j : ℕ) : Type 0 where
@@ -32,7 +39,8 @@ pub record LeadsOnward (first last i j : ℕ) : Type 0 where
 -- where an edge that can be had leads
 pub leads_onward : (first last i j : ℕ) → edge_status first last i j ≡ Here → LeadsOnward first last i j
 leads_onward first last i j here =
-    let by : IsTrue (is_shape i j) × (¬ IsPast first i) × (first ≤ j) × (j ≤ last) = (here_by (is_shape i j) first last i j).0 here in
+    let by : IsTrue (is_shape i j) × (¬ IsPast first i) × (first ≤ j) × (j ≤ last) =
+    (here_by (is_shape i j) first last i j).0 here in
     record { onward = shape_onward i j by.0; from = by.2; to = by.3 }
   where
     shape_onward : (i j : ℕ) → IsTrue (is_shape i j) → i < j
@@ -57,20 +65,29 @@ not_past first i some stays = by (nat_lt i first) refl
 -- an edge between versions that can be had is a step between kept numbers
 pub step_here : (graph : GraphData) (i j : ℕ) → i ≢ 0 → status_of graph i j ≡ Here → IsStep graph i j
 step_here graph i j some here =
-    let by : IsTrue (is_shape i j) × (¬ IsPast (first_of graph) i) × (first_of graph ≤ j) × (j ≤ last_of graph) = (here_by (is_shape i j) (first_of graph) (last_of graph) i j).0 here in
+    let by : IsTrue (is_shape i j) × (¬ IsPast (first_of graph) i) × (first_of graph ≤ j) × (j ≤ last_of graph) =
+    (here_by (is_shape i j) (first_of graph) (last_of graph) i j).0 here in
     let shape : IsShape i j = shape_is i j some by.0 in
-    record { shape = shape; from = not_past (first_of graph) i some by.1; to = by.3; kept = grind (arith, nat_tests, shape.onward, by.2, by.3) }
+    record {
+      shape = shape;
+      from = not_past (first_of graph) i some by.1;
+      to = by.3;
+      kept = grind (arith, nat_tests, shape.onward, by.2, by.3);
+    }
 
 -- the numbers from the first that is kept follow the one before it
-pub first_is : (graph : GraphData) → 0 < last_of graph → length graph.kept ≤ graph.last → first_of graph ≡ before_kept graph + 1
+pub first_is : (graph : GraphData) → 0 < last_of graph → length graph.kept ≤ graph.last
+    → first_of graph ≡ before_kept graph + 1
 first_is graph some numbered = grind (arith, nat_tests)
 
 -- the first number comes before the last by what is kept
-pub last_is : (graph : GraphData) → 0 < last_of graph → length graph.kept ≤ graph.last → last_of graph ≡ before_kept graph + length graph.kept
+pub last_is : (graph : GraphData) → 0 < last_of graph → length graph.kept ≤ graph.last
+    → last_of graph ≡ before_kept graph + length graph.kept
 last_is graph some numbered = grind (arith, nat_tests)
 
 -- a choice by a status that lets one have it
-chosen_here : (status : EdgeStatus) (i : ℕ) (keys : Option (List Key)) → status ≡ Here → i ≢ 0 → (if is_step_here status i then keys else None) ≡ keys
+chosen_here : (status : EdgeStatus) (i : ℕ) (keys : Option (List Key)) → status ≡ Here → i ≢ 0
+    → (if is_step_here status i then keys else None) ≡ keys
 chosen_here status i keys here some = rw here (positive i some)
   where
     positive : (i : ℕ) → i ≢ 0 → (if nat_lt 0 i then keys else None) ≡ keys
@@ -87,8 +104,10 @@ pub span_at : (graph : GraphData) (i j : ℕ) (step : StepData) (keys : List Key
     → Some keys ≡ list_of step (j - i) → Some keys ≡ span_of graph i j
 span_at graph i j step keys numbered some here lists kept =
     let edge : IsStep graph i j = step_here graph i j some here in
-    let first : first_of graph ≡ before_kept graph + 1 = first_is graph (omega (arith, edge.to, edge.shape.onward)) numbered in
-    let place : j - (j - i) - before_kept graph ≡ i + 1 - first_of graph = omega (arith, first, edge.shape.onward, edge.from) in
+    let first : first_of graph ≡ before_kept graph + 1 =
+    first_is graph (omega (arith, edge.to, edge.shape.onward)) numbered in
+    let place : j - (j - i) - before_kept graph ≡ i + 1 - first_of graph =
+    omega (arith, first, edge.shape.onward, edge.from) in
     ap (λ (keys : List Key). Some keys)
     (lists (j - i) edge.shape.stride keys (sym kept) edge.shape.divides
     (omega (arith, first, edge.shape.onward, edge.from))
@@ -125,7 +144,15 @@ pub no_gap : (graph : GraphData) (i j : ℕ) → length graph.kept ≤ graph.las
 no_gap graph i j numbered some here none =
     let edge : IsStep graph i j = step_here graph i j some here in
     let positive : 0 < last_of graph = omega (arith, edge.to, edge.shape.onward) in
-    some_at graph.kept (j - first_of graph) (omega (arith, first_is graph positive numbered, last_is graph positive numbered, edge.to, edge.from, edge.shape.onward))
+    some_at graph.kept (j - first_of graph)
+    (omega (
+      arith,
+      first_is graph positive numbered,
+      last_is graph positive numbered,
+      edge.to,
+      edge.from,
+      edge.shape.onward,
+    ))
     (sym (none ∙ chosen (keeps graph j) (slice_get graph.kept (j - first_of graph)) edge.kept))
   where
     chosen : (b : Bool) (found : Option Push) → b ≡ true → (if b then found else None) ≡ found

@@ -21,22 +21,26 @@ absent_by true first last i j = search rules
 absent_by false first last i j = search rules
 
 -- where a number is discarded
-gone_by : (shape : Bool) (first last i j : ℕ) → (status_by shape first last i j ≡ Gone) ↔ (IsTrue shape × (IsPast first i ⊎ (j < first)))
+gone_by : (shape : Bool) (first last i j : ℕ)
+    → (status_by shape first last i j ≡ Gone) ↔ (IsTrue shape × (IsPast first i ⊎ (j < first)))
 gone_by true first last i j = search rules
 gone_by false first last i j = search rules
 
 -- where the step is the next
-pub awaited_by : (shape : Bool) (first last i j : ℕ) → first ≤ last → 0 < last → (status_by shape first last i j ≡ Awaited) ↔ (IsTrue shape × IsNext last i j)
+pub awaited_by : (shape : Bool) (first last i j : ℕ) → first ≤ last → 0 < last
+    → (status_by shape first last i j ≡ Awaited) ↔ (IsTrue shape × IsNext last i j)
 awaited_by true first last i j order some = search rules
 awaited_by false first last i j order some = search rules
 
 -- where it leads past the last
-ahead_by : (shape : Bool) (first last i j : ℕ) → first ≤ last → (status_by shape first last i j ≡ Ahead) ↔ (IsTrue shape × (¬ IsPast first i) × (¬ IsNext last i j) × (last < j))
+ahead_by : (shape : Bool) (first last i j : ℕ) → first ≤ last
+    → (status_by shape first last i j ≡ Ahead) ↔ (IsTrue shape × (¬ IsPast first i) × (¬ IsNext last i j) × (last < j))
 ahead_by true first last i j order = search rules
 ahead_by false first last i j order = search rules
 
 -- where it can be had
-pub here_by : (shape : Bool) (first last i j : ℕ) → (status_by shape first last i j ≡ Here) ↔ (IsTrue shape × (¬ IsPast first i) × (first ≤ j) × (j ≤ last))
+pub here_by : (shape : Bool) (first last i j : ℕ)
+    → (status_by shape first last i j ≡ Here) ↔ (IsTrue shape × (¬ IsPast first i) × (first ≤ j) × (j ≤ last))
 here_by true first last i j = search rules
 here_by false first last i j = search rules
 

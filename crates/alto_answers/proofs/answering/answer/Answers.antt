@@ -15,7 +15,8 @@ maps-requires g c = subst AreGood (sym c.requires.2.current) (good_rows _ c.requ
 pub directory-requires : goal.directory-requires
 directory-requires g c =
     let version = c.requires in
-    let rows = ap g.R.RowStore.rows c.deref-in-Some-Directory.ensures ∙ ap (λ (version : Version). version.rows) c.front.view_is ∙ version.2.current in
+    let rows = ap g.R.RowStore.rows c.deref-in-Some-Directory.ensures
+    ∙ ap (λ (version : Version). version.rows) c.front.view_is ∙ version.2.current in
     subst AreGood (sym rows) (good_rows _ version.1)
 
 -- the tables of a version are those of its rows
@@ -30,4 +31,6 @@ query-requires g c =
 pub returns-in-Some-Edge-clause-edits : goal.returns-in-Some-Edge-clause-edits
 returns-in-Some-Edge-clause-edits g c =
     IfOk-weaker c.edges.result _ _
-    (λ answer made. subst BringsEdits (sym (made _ c.requires.1 c.requires.2)) (edges_bring_none _ c.requires.0 _ (segment c.path_of-path.result.now 2) (segment c.path_of-path.result.now 4) (segment c.path_of-path.result.now 5))) c.edges.ensures.answer
+    (λ answer made. subst BringsEdits (sym (made _ c.requires.1 c.requires.2))
+    (edges_bring_none _ c.requires.0 _ (segment c.path_of-path.result.now 2) (segment c.path_of-path.result.now 4)
+    (segment c.path_of-path.result.now 5))) c.edges.ensures.answer

@@ -4,4 +4,5 @@ use Rattle.alto_answers.proofs.authority.authority_in.Goals as goal
 
 -- an authority is text
 pub unreachable-requires : goal.unreachable-requires
-unreachable-requires c = c.in-Err.ensures.cases.0 (authority_is_text _ (sym c.is_authority.ensures ∙ c.if-not-is_authority.false))
+unreachable-requires c = c.in-Err.ensures.cases.0
+    (authority_is_text _ (sym c.is_authority.ensures ∙ c.if-not-is_authority.false))

@@ -11,6 +11,7 @@ unfolding is_address
 returns-then-text-le45 c =
     let xs = c.args.text.now in
     let all : c.all.result ≡ list_all is_address_byte xs =
-    all_from_yields_List is_address_byte _ _ c.all.result c.all.ensures.ran (YieldsList-from_slice xs c.iter.ensures.rest)
+    all_from_yields_List is_address_byte _ _ c.all.result c.all.ensures.ran
+    (YieldsList-from_slice xs c.iter.ensures.rest)
     (λ x b q k. search (rules, tests)) in
     grind (arith, nat_tests, all)

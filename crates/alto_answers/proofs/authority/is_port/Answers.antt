@@ -12,6 +12,7 @@ unfolding is_port
 returns-then-text-le5 c =
     let xs = c.args.text.now in
     let all : c.all.result ≡ list_all is_ascii_digit xs =
-    all_from_yields_List is_ascii_digit _ _ c.all.result c.all.ensures.ran (YieldsList-from_slice xs c.iter.ensures.rest)
+    all_from_yields_List is_ascii_digit _ _ c.all.result c.all.ensures.ran
+    (YieldsList-from_slice xs c.iter.ensures.rest)
     (λ x b q k. search (rules, tests)) in
     grind (arith, nat_tests, all)

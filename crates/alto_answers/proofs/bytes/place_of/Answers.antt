@@ -1,4 +1,5 @@
-use Rattle.std.proofs.Common.{◌≡◌, ◌∙◌, ◌==◌, ◌≤◌, ℕ, Some, None, cond, unwrap_or, nat_lt, length, ap, arith, rules, tests}
+use Rattle.std.proofs.Common.{◌≡◌, ◌∙◌, ◌==◌, ◌≤◌, ℕ, Some, None, cond, unwrap_or, nat_lt, length, ap, arith, rules}
+use Rattle.std.proofs.Common.{tests}
 use Rattle.std.specs.List.{position_or_len}
 use Rattle.std.proofs.lemmas.Bool.Decides.{nat_tests}
 use Rattle.std.proofs.lemmas.Iterator.{YieldsList-from_slice}
@@ -13,7 +14,8 @@ pub returns-clause-place : goal.returns-clause-place
 returns-clause-place c =
     let xs = c.args.text.now in
     let found =
-    position_from_yields_List (λ b. b == c.args.byte) _ _ c.position.result c.position.ensures.ran (YieldsList-from_slice xs c.iter.ensures.rest)
+    position_from_yields_List (λ b. b == c.args.byte) _ _ c.position.result c.position.ensures.ran
+    (YieldsList-from_slice xs c.iter.ensures.rest)
     (λ x b q k. search (rules, tests)) in
     c.unwrap_or.ensures
     ∙ ap (λ o. unwrap_or o (length xs)) found

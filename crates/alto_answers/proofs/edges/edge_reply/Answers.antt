@@ -8,9 +8,11 @@ use Rattle.alto_book.specs.Walks.{content_data, patch}
 use Rattle.alto_replies.specs.Replies.{ok_reply}
 use Rattle.alto_versions.proofs.PushedLemmas.{span_rises}
 use Rattle.tips_graph.specs.Graph.{GraphData, rows_at, span_of}
-use Rattle.alto_answers.proofs.EdgeLemmas.{here_too, low_of_span, patched, patch_replied, rows_began, rows_begin, rows_good}
+use Rattle.alto_answers.proofs.EdgeLemmas.{here_too, low_of_span, patched, patch_replied, rows_began, rows_begin}
+use Rattle.alto_answers.proofs.EdgeLemmas.{rows_good}
 use Rattle.alto_answers.proofs.EdgeLemmas.{rows_good_before, rows_here, rows_there, whole_document}
-use Rattle.alto_answers.proofs.edges.edge_reply.Goals.{in-Some-patch+in_ok-patch-in-Some-patch, in-None+in_ok-patch-in-None}
+use Rattle.alto_answers.proofs.edges.edge_reply.Goals.{in-Some-patch+in_ok-patch-in-Some-patch}
+use Rattle.alto_answers.proofs.edges.edge_reply.Goals.{in-None+in_ok-patch-in-None}
 use Rattle.alto_answers.proofs.edges.edge_reply.Goals as goal
 
 pub unreachable-requires : goal.unreachable-requires
@@ -44,13 +46,15 @@ returns-in_default-2-clause-reply g c =
     (c.in-Some.ensures ∙ ap (λ (graph : GraphData). rows_at graph c.args.j) c.graph-graph.ensures) in
     made ∙ rw (c.media_type.ensures, c.in_ok-document.ensures)
     (whole_document _ _ _ c.args.form _ _ _ is here (ap g.R.RowStore.rows c.deref.ensures ∙ rows)
-    ((rw c.in_default-2.is at c.in_ok-keys.ensures) ∙ ap (λ (graph : GraphData). span_of graph c.args.i c.args.j) c.graph-graph.ensures)))
+    ((rw c.in_default-2.is at c.in_ok-keys.ensures) ∙ ap (λ (graph : GraphData). span_of graph c.args.i c.args.j)
+    c.graph-graph.ensures)))
     c.ok_reply.ensures.reply
 
 pub unreachable-requires-in_default-rows_at : goal.unreachable-requires-in_default-rows_at
 unreachable-requires-in_default-rows_at g c =
     let low = low_of_span _ _ _ _ _ _ c.requires.1
-    ((rw c.in-Some-2.is at c.in_ok-keys.ensures) ∙ ap (λ (graph : GraphData). span_of graph c.args.i c.args.j) c.graph-graph.ensures) in
+    ((rw c.in-Some-2.is at c.in_ok-keys.ensures) ∙ ap (λ (graph : GraphData). span_of graph c.args.i c.args.j)
+    c.graph-graph.ensures) in
     rows_began _ _ _ _ _ c.requires.1 c.requires.2 low
     (c.in_default-rows_at.ensures ∙ ap (λ (graph : GraphData). rows_at graph c.args.i) c.graph-graph.ensures)
 
@@ -59,10 +63,12 @@ patch_text-requires g c =
     let rows = rows_here _ _ _ _ _ _ c.requires.1 c.requires.2
     (c.in-Some.ensures ∙ ap (λ (graph : GraphData). rows_at graph c.args.j) c.graph-graph.ensures) in
     let low = low_of_span _ _ _ _ _ _ c.requires.1
-    ((rw c.in-Some-2.is at c.in_ok-keys.ensures) ∙ ap (λ (graph : GraphData). span_of graph c.args.i c.args.j) c.graph-graph.ensures) in
+    ((rw c.in-Some-2.is at c.in_ok-keys.ensures) ∙ ap (λ (graph : GraphData). span_of graph c.args.i c.args.j)
+    c.graph-graph.ensures) in
     let before = rows_begin _ _ _ _ _ _ c.requires.1 c.requires.2 low
     (c.in-Some-rows_at.ensures ∙ ap (λ (graph : GraphData). rows_at graph c.args.i) c.graph-graph.ensures) in
-    let good = rows_good _ _ _ _ _ _ c.requires.1 c.requires.2 (ap g.R.RowStore.rows c.deref-in-None-2.ensures ∙ rows) in
+    let good = rows_good _ _ _ _ _ _ c.requires.1
+    c.requires.2 (ap g.R.RowStore.rows c.deref-in-None-2.ensures ∙ rows) in
     record {
       good_before = rows_good_before _ _ _ _ _ c.requires.1 (ap g.R.RowStore.rows c.deref-in-None.ensures ∙ before);
       good = good.0;
@@ -79,8 +85,10 @@ returns-clause-reply g c =
     let keys = cow_slice_items c.in-Some-2.keys in
     let from = c.in-Some-rows_at.ensures ∙ ap (λ (graph : GraphData). rows_at graph c.args.i) c.graph-graph.ensures in
     let to = c.in-Some.ensures ∙ ap (λ (graph : GraphData). rows_at graph c.args.j) c.graph-graph.ensures in
-    let span = (rw c.in-Some-2.is at c.in_ok-keys.ensures) ∙ ap (λ (graph : GraphData). span_of graph c.args.i c.args.j) c.graph-graph.ensures in
-    let text : c.match-patch.patch.items ≡ compact_text (content_data (patch c.args.form c.args.resource.now earlier later keys)) =
+    let span = (rw c.in-Some-2.is at c.in_ok-keys.ensures) ∙ ap (λ (graph : GraphData). span_of graph c.args.i c.args.j)
+    c.graph-graph.ensures in
+    let text : c.match-patch.patch.items
+    ≡ compact_text (content_data (patch c.args.form c.args.resource.now earlier later keys)) =
     elim c.match-patch.branch [
       | in-Some-patch+in_ok-patch-in-Some-patch w ↦
           rw w.patch-is

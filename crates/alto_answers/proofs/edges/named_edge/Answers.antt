@@ -19,7 +19,8 @@ unreachable-requires g c =
     let rows = ap g.R.RowStore.rows c.deref.ensures ∙ ap (λ (version : Version). version.rows) c.front.view_is in
     let named : Some c.in-Some.of ≡ resource_named c.args.front.now.rows c.args.resource.now =
     sym c.in-Some.is ∙ (c.in_ok-of.ensures ∙ ap (λ all. resource_named all c.args.resource.now) rows) in
-    named_has_graph c.args.front.now c.args.resource.now c.in-Some.of c.requires named (rw c.in_default-followed.is at c.followed.ensures)
+    named_has_graph c.args.front.now c.args.resource.now c.in-Some.of c.requires
+    named (rw c.in_default-followed.is at c.followed.ensures)
 
 pub newest_reply-requires : goal.newest_reply-requires
 newest_reply-requires g c =
@@ -36,7 +37,8 @@ returns-then-is_newest-clause-answer g c =
     λ book legal stands.
     newest_edge c.args.front.now _ book c.in-Some.of c.args.form c.args.resource.now c.args.i.now c.args.j.now _
     legal stands (ap Some c.graph.ensures ∙ c.in-Some-followed.ensures) named
-    (sym c.edge_number-i.ensures ∙ ends.0) (sym c.edge_number-j.ensures ∙ ends.1) ends.2 c.in_ok-newest_reply.ensures.reply
+    (sym c.edge_number-i.ensures ∙ ends.0) (sym c.edge_number-j.ensures ∙ ends.1) ends.2
+    c.in_ok-newest_reply.ensures.reply
 
 pub numbered_edge-requires : goal.numbered_edge-requires
 numbered_edge-requires g c = (c.requires.0, graph_some _ _ _ _ c.requires.1 c.requires.2 c.in-Some-followed.ensures)
@@ -50,5 +52,6 @@ returns-clause-answer g c =
     (λ answer made book legal stands.
     let found : resource_named (rows_of book) c.args.resource.now ≡ Some c.in-Some.of =
     ap (λ all. resource_named all c.args.resource.now) (sym stands.current) ∙ sym named in
-    rw (found, ← c.edge_number-i.ensures, ← c.edge_number-j.ensures) (made book (graph_some _ _ _ _ legal stands c.in-Some-followed.ensures)))
+    rw (found, ← c.edge_number-i.ensures, ← c.edge_number-j.ensures)
+    (made book (graph_some _ _ _ _ legal stands c.in-Some-followed.ensures)))
     c.numbered_edge.ensures.answer

@@ -10,7 +10,9 @@ pub returns-in_ok-lookup_reply-in-Get-clause-answer : goal.returns-in_ok-lookup_
 returns-in_ok-lookup_reply-in-Get-clause-answer g c = λ book stands.
     rw c.in-Get.is
     (looked_up (rows_of book) (segment c.args.path.now 2) (segment c.args.path.now 3) _ c.read_addr.result _
-    (sym (ap (λ n. prefixes_named (rows_of book) (named is_net_byte 24 n)) (c.deref.ensures.value ∙ c.in_ok-net-in-Get.ensures))
+    (sym (ap (λ n. prefixes_named (rows_of book) (named is_net_byte 24 n)) (c.deref.ensures.value
+    ∙ c.in_ok-net-in-Get.ensures))
     ∙ c.in_ok-table-in-Get.ensures book stands)
-    (subst (λ t. ReadsAddr t c.read_addr.result) (c.deref-in-Get.ensures.value ∙ c.in_ok-address-in-Get.ensures) c.read_addr.ensures)
+    (subst (λ t. ReadsAddr t c.read_addr.result) (c.deref-in-Get.ensures.value ∙ c.in_ok-address-in-Get.ensures)
+    c.read_addr.ensures)
     c.in_ok-lookup_reply-in-Get.ensures.reply)

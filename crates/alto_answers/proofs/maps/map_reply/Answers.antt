@@ -12,5 +12,6 @@ newest_reply-requires g c =
 pub returns-in-None : goal.returns-in-None
 returns-in-None g c =
     let rows = ap g.R.RowStore.rows c.deref.ensures ∙ ap (λ (version : Version). version.rows) c.front.view_is in
-    let none : resource_named c.args.front.now.rows c.args.text.now ≡ None = sym (rw rows at c.in_ok-of.ensures) ∙ c.in-None.is in
+    let none : resource_named c.args.front.now.rows c.args.text.now ≡ None = sym (rw rows at c.in_ok-of.ensures)
+    ∙ c.in-None.is in
     rw none c.not_found.ensures.reply

@@ -14,5 +14,7 @@ pub returns-in-Some : goal.returns-in-Some
 returns-in-Some g c =
     let rows = ap g.R.RowStore.rows c.deref.ensures ∙ ap (λ (version : Version). version.rows) c.front.view_is in
     let named : Some c.in-Some.of ≡ resource_named c.args.front.now.rows c.args.text.now =
-    sym c.in-Some.is ∙ (c.in_ok-of.ensures ∙ (ap (λ all. resource_named all c.as_bytes.result.now) rows ∙ ap (resource_named c.args.front.now.rows) c.as_bytes.ensures.value)) in
-    λ book legal stands. graph_of_named c.args.front.now book c.args.text.now c.in-Some.of stands named ∙ sym c.graph.ensures
+    sym c.in-Some.is ∙ (c.in_ok-of.ensures ∙ (ap (λ all. resource_named all c.as_bytes.result.now) rows
+    ∙ ap (resource_named c.args.front.now.rows) c.as_bytes.ensures.value)) in
+    λ book legal stands. graph_of_named c.args.front.now book c.args.text.now c.in-Some.of stands named
+    ∙ sym c.graph.ensures

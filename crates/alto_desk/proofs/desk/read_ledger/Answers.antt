@@ -9,6 +9,7 @@ returns-clause-refused g c =
     let records = c.in_ok-records.ensures in
     IfErr-weaker c.opened.result _ _
     (λ fault tells clean stored held.
-    explained fault stored _ _ _ _ records.head records.base records.storable (sym (c.in_ok-stored.ensures.loaded clean stored held) ∙ records.spelled)
+    explained fault stored _ _ _ _ records.head records.base records.storable
+    (sym (c.in_ok-stored.ensures.loaded clean stored held) ∙ records.spelled)
     tells)
     c.opened.ensures.err

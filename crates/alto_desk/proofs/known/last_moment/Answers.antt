@@ -10,5 +10,6 @@ use Rattle.alto_desk.proofs.known.last_moment.Goals as goal
 pub returns : goal.returns
 returns c =
     c.last_of_batches.ensures
-    ∙ (ap (λ (before : ℕ). fold (λ (_ : ℕ) (one : Kept). one.moment) before (map kept_of (map arc_value c.args.batches.now))) c.last_of_receipts.ensures
+    ∙ (ap (λ (before : ℕ). fold (λ (_ : ℕ) (one : Kept). one.moment)
+    before (map kept_of (map arc_value c.args.batches.now))) c.last_of_receipts.ensures
     ∙ sym (last_both (map receipt_of c.args.receipts.now) (map kept_of (map arc_value c.args.batches.now))))

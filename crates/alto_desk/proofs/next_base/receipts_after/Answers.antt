@@ -11,6 +11,8 @@ loop-batch-init c = ap (map receipt_of) c.in_ok-all.ensures ∙ sym (append-nil 
 
 pub loop-batch-preserved : goal.loop-batch-preserved
 loop-batch-preserved c =
-    receipts_next arc_value (map receipt_of c.args.receipts.now) c.loop-batch.all.items _ c.in_ok-kept_of.field-0 c.args.batches.now
-    c.loop-batch.batch-index c.batch-item.result c.loop-batch-test.true c.batch-item.is c.loop-batch.invariant c.in_ok-push.ensures.items
+    receipts_next arc_value (map receipt_of c.args.receipts.now) c.loop-batch.all.items _ c.in_ok-kept_of.field-0
+    c.args.batches.now
+    c.loop-batch.batch-index c.batch-item.result c.loop-batch-test.true c.batch-item.is c.loop-batch.invariant
+    c.in_ok-push.ensures.items
     (c.in_ok-kept_of.ensures ∙ ap kept_of c.deref.ensures)

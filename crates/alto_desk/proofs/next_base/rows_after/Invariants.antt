@@ -7,4 +7,5 @@ use Rattle.alto_desk.proofs.next_base.rows_after.Given as goal
 
 abbrev pub invariant-loop-batch : goal.invariant-loop-batch
 invariant-loop-batch g l =
-    g.R.RowStore.rows l.rows ≡ after (g.R.RowStore.rows l.base) (writes_in (map arc_value (take l.batch-index l.batches)))
+    g.R.RowStore.rows l.rows ≡ after (g.R.RowStore.rows l.base)
+    (writes_in (map arc_value (take l.batch-index l.batches)))

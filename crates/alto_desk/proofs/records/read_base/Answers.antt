@@ -12,14 +12,26 @@ returns-in-Ok-clause-err c =
     let texts = map vec_items c.in_ok-pieces.pieces.items in
     let count = length-map c.in_ok-pieces.pieces.items vec_items in
     let other : length texts ≢ length c.args.rows.items =
-    λ same. c.if-len-count.false (omega (arith, c.len.ensures, c.in_ok-pieces.pieces.ok, count, same, c.len-count.ensures, c.args.rows.ok)) in
-    let place : length texts ≡ c.len-else-len-count.result = omega (arith, count, c.in_ok-pieces.pieces.ok, c.len-else-len-count.ensures) in
+    λ same. c.if-len-count.false (omega (
+      arith,
+      c.len.ensures,
+      c.in_ok-pieces.pieces.ok,
+      count,
+      same,
+      c.len-count.ensures,
+      c.args.rows.ok,
+    )) in
+    let place : length texts ≡ c.len-else-len-count.result =
+    omega (arith, count, c.in_ok-pieces.pieces.ok, c.len-else-len-count.ensures) in
     subst (IsDamagedPiece c.args.rows.items) place
     (row_behind texts c.args.rows.items c.in-Ok.base c.in_ok-pieces.ensures other c.in-Ok.ensures.ok.0
     (ap (map vec_items) (sym c.deref.ensures.value) ∙ c.in-Ok.ensures.ok.1))
 
 pub returns-in-Err-BadPiece-clause-err : goal.returns-in-Err-BadPiece-clause-err
 returns-in-Err-BadPiece-clause-err c =
-    let bad = subst (IsBaseFault (map vec_items c.deref.result.now)) c.in-Err-BadPiece.field-0-is c.in-Err-BadPiece.ensures.err in
-    bad_piece (map vec_items c.in_ok-pieces.pieces.items) c.args.rows.items c.in-Err-BadPiece.place c.in_ok-pieces.ensures
-    (subst (λ (texts : List (List ℕ)). IsBadPiece texts c.in-Err-BadPiece.place) (ap (map vec_items) c.deref.ensures.value) bad)
+    let bad = subst (IsBaseFault (map vec_items c.deref.result.now)) c.in-Err-BadPiece.field-0-is
+    c.in-Err-BadPiece.ensures.err in
+    bad_piece (map vec_items c.in_ok-pieces.pieces.items) c.args.rows.items c.in-Err-BadPiece.place
+    c.in_ok-pieces.ensures
+    (subst (λ (texts : List (List ℕ)). IsBadPiece texts c.in-Err-BadPiece.place)
+    (ap (map vec_items) c.deref.ensures.value) bad)

@@ -18,14 +18,17 @@ returns-in_err-read_batch-clause-err c =
     let p = err_from_is_err_and c.from_residual-in_err-read_batch.result c.from_residual-in_err-read_batch.ensures.1 in
     let count = c.len.ensures in
     rw (p.1, p.2)
-    (damaged_behind c.in_err-read_batch.field-0.0 c.args.b c.args.rows.now c.loop-row.row-index c.row-item.result c.loop-row.batches.items
-    (c.args.b + c.len.result + 1) c.loop-row-test.true c.row-item.is c.loop-row.invariant.spelled c.loop-row.invariant.storable
+    (damaged_behind c.in_err-read_batch.field-0.0 c.args.b c.args.rows.now c.loop-row.row-index c.row-item.result
+    c.loop-row.batches.items
+    (c.args.b + c.len.result + 1) c.loop-row-test.true c.row-item.is c.loop-row.invariant.spelled
+    c.loop-row.invariant.storable
     (omega (arith, c.loop-row.batches.ok, count)) c.in_err-read_batch.ensures.err)
 
 pub loop-row-preserved : goal.loop-row-preserved
 loop-row-preserved c = record {
   spelled = rw c.in_ok-push.ensures.items
-      (spelled_more c.args.b c.args.rows.now c.loop-row.row-index c.row-item.result c.loop-row.batches.items c.in_ok-read_batch.field-0
+      (spelled_more c.args.b c.args.rows.now c.loop-row.row-index c.row-item.result c.loop-row.batches.items
+      c.in_ok-read_batch.field-0
       (c.args.b + c.len.result + 1) c.loop-row-test.true c.row-item.is c.loop-row.invariant.spelled
       (omega (arith, c.loop-row.batches.ok, c.len.ensures)) c.in_ok-read_batch.ensures.ok.1);
   storable = rw c.in_ok-push.ensures.items
@@ -35,10 +38,18 @@ loop-row-preserved c = record {
 }
 
 pub overflow_add-number : goal.overflow_add-number
-overflow_add-number c = omega (arith, c.loop-row.invariant.count, c.requires, c.len.ensures, c.loop-row.batches.ok, c.loop-row-test.true)
+overflow_add-number c = omega (
+  arith,
+  c.loop-row.invariant.count,
+  c.requires,
+  c.len.ensures,
+  c.loop-row.batches.ok,
+  c.loop-row-test.true,
+)
 
 pub overflow_add-number-in-loop-row : goal.overflow_add-number-in-loop-row
-overflow_add-number-in-loop-row c = omega (arith, c.loop-row.invariant.count, c.requires, c.len.ensures, c.loop-row.batches.ok, c.loop-row-test.true)
+overflow_add-number-in-loop-row c =
+    omega (arith, c.loop-row.invariant.count, c.requires, c.len.ensures, c.loop-row.batches.ok, c.loop-row-test.true)
 
 pub returns-clause-spelled : goal.returns-clause-spelled
 returns-clause-spelled c =

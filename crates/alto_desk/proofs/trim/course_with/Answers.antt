@@ -13,6 +13,7 @@ returns g c =
     IfOk-weaker c.with.result _ _
     (λ next leads book legal more follows.
     leads book batch legal more
-    (c.in_ok-rows.ensures ∙ (ap (λ (rows : Rows). after rows batch.writes) (c.rows.ensures ∙ follows.current) ∙ rows_of-with_batch book batch))
+    (c.in_ok-rows.ensures ∙ (ap (λ (rows : Rows). after rows batch.writes) (c.rows.ensures ∙ follows.current)
+    ∙ rows_of-with_batch book batch))
     writes follows)
     c.with.ensures

@@ -7,4 +7,5 @@ use Rattle.alto_desk.proofs.trim.front_of.Given as goal
 
 abbrev pub invariant-loop-batch : goal.invariant-loop-batch
 invariant-loop-batch g l =
-    Follows l.course (book_kept (g.R.RowStore.rows (arc_value l.base)) l.receipts (map arc_value (take l.batch-index l.batches)))
+    Follows l.course (book_kept (g.R.RowStore.rows (arc_value l.base))
+    l.receipts (map arc_value (take l.batch-index l.batches)))

@@ -1,7 +1,8 @@
 use Rattle.std.proofs.Common.{refl, ap, ◌∙◌}
 use Rattle.alto_serve.proofs.EventLemmas.{grown_itself, grown_on}
 use Rattle.alto_doors.specs.declared.state.DoorState.{DoorState}
-use Rattle.alto_doors.proofs.WorkerLemmas.{counted_on, ended_on, few_first, few_on, fits_on, kept_on, left_ended, left_failed, no_end, served_none, served_on, served_where_left}
+use Rattle.alto_doors.proofs.WorkerLemmas.{counted_on, ended_on, few_first, few_on, fits_on, kept_on, left_ended}
+use Rattle.alto_doors.proofs.WorkerLemmas.{left_failed, no_end, served_none, served_on, served_where_left}
 use Rattle.alto_doors.proofs.worker.serve_door.Goals as goal
 
 pub loop-init : goal.loop-init

@@ -12,5 +12,7 @@ returns-in-Ok g c = c.in-Ok.ensures.accepted
 pub returns-in-Err : goal.returns-in-Err
 returns-in-Err g c =
     IfOk-weaker c.refused.result _ _
-    (λ done others. c.in-Err.ensures.unchanged ∙ sym (refused_leaves c.args.desk.now.ledger.book c.args.command 0 c.in-Err.fault (c.in-Err.ensures.err others.0 others.1)))
+    (λ done others. c.in-Err.ensures.unchanged
+    ∙ sym (refused_leaves c.args.desk.now.ledger.book c.args.command 0 c.in-Err.fault
+    (c.in-Err.ensures.err others.0 others.1)))
     c.refused.ensures

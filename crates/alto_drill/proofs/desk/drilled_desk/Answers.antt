@@ -9,7 +9,8 @@ use Rattle.alto_drill.proofs.desk.drilled_desk.Goals as goal
 pub loop-k-init : goal.loop-k-init
 loop-k-init g c = record {
   state = c.new-draws.ensures ∙ state_after-none c.args.number;
-  book = c.in_ok-desk.ensures ∙ ap (λ epoch. opening_book epoch 8) c.in_ok-epoch.ensures ∙ sym (drill_book-none c.args.number);
+  book = c.in_ok-desk.ensures ∙ ap (λ epoch. opening_book epoch 8) c.in_ok-epoch.ensures
+      ∙ sym (drill_book-none c.args.number);
 }
 
 pub accept-requires : goal.accept-requires
@@ -21,7 +22,8 @@ loop-k-preserved g c = record {
       c.in_ok-command.ensures.state
       ∙ ap (λ x. if c.loop-k.k == 1 then x else state_after x 6) c.loop-k.invariant.state
       ∙ next_start c.args.number c.loop-k.k (omega arith);
-  book = drill_goes_on c.args.number c.loop-k.k c.loop-k.draws.state _ _ _ (omega arith) c.loop-k.invariant.state c.loop-k.invariant.book c.in_ok-command.ensures.import
+  book = drill_goes_on c.args.number c.loop-k.k c.loop-k.draws.state _ _ _ (omega arith) c.loop-k.invariant.state
+      c.loop-k.invariant.book c.in_ok-command.ensures.import
       c.in_ok-accept.ensures;
 }
 

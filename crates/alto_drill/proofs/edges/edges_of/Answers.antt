@@ -7,5 +7,6 @@ use Rattle.alto_drill.proofs.edges.edges_of.Goals as goal
 pub loop-i-preserved : goal.loop-i-preserved
 loop-i-preserved g c =
     c.in_ok-add_edges_from.ensures
-    ∙ ap (λ (edges : List (ℕ × ℕ)). edges ++ edges_from (status_of c.args.graph.now) (last_of c.args.graph.now) c.loop-i.i) c.loop-i.invariant
+    ∙ ap (λ (edges : List (ℕ × ℕ)). edges ++ edges_from (status_of c.args.graph.now) (last_of c.args.graph.now)
+    c.loop-i.i) c.loop-i.invariant
     ∙ starts_more (status_of c.args.graph.now) (last_of c.args.graph.now) c.loop-i.i

@@ -10,4 +10,5 @@ loop-number-preserved c =
     c.in_ok-push-2.ensures.items
     ∙ (λ n. c.loop-number.invariant n ++ c.in_ok-pid_add.ensures n ∷ [])
     ∙ ap (λ (edits : List Edit). edit.NetAdd net_name ∷ edits)
-    (sym (map-range_with_len_more (λ m. edit.PidAdd net_name (pid_name m)) 0 c.loop-number.number c.loop-number.number (omega arith)))
+    (sym (map-range_with_len_more (λ m. edit.PidAdd net_name (pid_name m)) 0 c.loop-number.number
+    c.loop-number.number (omega arith)))

@@ -3,7 +3,8 @@ use Rattle.std.proofs.lemmas.Result.{IfOk-weaker}
 use Rattle.edge_patch.specs.Documents as documents
 use Rattle.alto_book.specs.Walks.{document_at}
 use Rattle.alto_drill.specs.Trials.{with_contents}
-use Rattle.alto_drill.proofs.EdgeLemmas.{good_end, good_start, here_too, low_of_span, patch_contents, rows_end, rows_start, some_end, some_start, whole_contents}
+use Rattle.alto_drill.proofs.EdgeLemmas.{good_end, good_start, here_too, low_of_span, patch_contents, rows_end}
+use Rattle.alto_drill.proofs.EdgeLemmas.{rows_start, some_end, some_start, whole_contents}
 use Rattle.alto_drill.proofs.patches.try_edge.Goals as goal
 
 pub unreachable-requires : goal.unreachable-requires
@@ -28,7 +29,8 @@ returns-in_default-2 g c =
     let same = ap g.R.RowStore.rows c.deref.ensures ∙ rows in
     let holds = whole_contents _ _ _ c.args.i c.args.j _ is here same (rw c.in_default-2.is at c.in_ok-keys.ensures) in
     made (document_at book c.args.of.now c.args.i)
-    ∙ (λ n. with_contents (document_at book c.args.of.now c.args.i) (documents.document c.args.of.now (same n)) (holds n) c.args.trials.now))
+    ∙ (λ n. with_contents (document_at book c.args.of.now c.args.i) (documents.document c.args.of.now (same n))
+    (holds n) c.args.trials.now))
     c.try_document.ensures
 
 pub unreachable-requires-in_default-rows_at : goal.unreachable-requires-in_default-rows_at
@@ -64,9 +66,11 @@ returns g c =
     (λ done made book is.
     let here = here_too _ _ _ _ c.args.i c.args.j c.requires.1 is c.requires.2 in
     let low = low_of_span _ _ _ _ _ _ is (rw c.in-Some-2.is at c.in_ok-keys.ensures) in
-    let before = ap g.R.RowStore.rows c.deref-2.ensures ∙ rows_start _ _ _ c.args.i c.args.j _ is here low c.in-Some-rows_at.ensures in
+    let before = ap g.R.RowStore.rows c.deref-2.ensures ∙ rows_start _ _ _ c.args.i c.args.j _ is here low
+    c.in-Some-rows_at.ensures in
     let rows = ap g.R.RowStore.rows c.deref-3.ensures ∙ rows_end _ _ _ c.args.i c.args.j _ is here c.in-Some.ensures in
     let holds = patch_contents _ _ _ c.args.i c.args.j _ _ _ is here before rows
     (ap Some c.deref-4.ensures.value ∙ (rw c.in-Some-2.is at c.in_ok-keys.ensures)) in
-    made ∙ (λ n. with_contents (documents.document c.args.of.now (before n)) (documents.document c.args.of.now (rows n)) (holds n) c.args.trials.now))
+    made ∙ (λ n. with_contents (documents.document c.args.of.now (before n)) (documents.document c.args.of.now (rows n))
+    (holds n) c.args.trials.now))
     c.try_patches.ensures

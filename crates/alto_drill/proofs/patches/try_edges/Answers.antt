@@ -15,12 +15,15 @@ pub loop-i-preserved : goal.loop-i-preserved
 loop-i-preserved g c = λ book is.
     let edge : ℕ × ℕ = get_or c.args.edges.now c.loop-i.i-index (0, 0) in
     c.in_ok-try_edge.ensures book is
-    ∙ ap (λ (trials : TrialData). with_contents (document_at book c.args.of.now edge.0) (document_at book c.args.of.now edge.1) (contents_of book c.args.of.now edge) trials)
+    ∙ ap (λ (trials : TrialData). with_contents (document_at book c.args.of.now edge.0)
+    (document_at book c.args.of.now edge.1) (contents_of book c.args.of.now edge) trials)
     (c.loop-i.invariant book is)
     ∙ with_more book c.args.of.now (take c.loop-i.i-index c.args.edges.now) edge c.args.trials.now
-    ∙ ap (λ (edges : List (ℕ × ℕ)). with_edges book c.args.of.now edges c.args.trials.now) (sym (take_more c.args.edges.now c.loop-i.i-index (0, 0) c.loop-i-test.true))
+    ∙ ap (λ (edges : List (ℕ × ℕ)). with_edges book c.args.of.now edges c.args.trials.now)
+    (sym (take_more c.args.edges.now c.loop-i.i-index (0, 0) c.loop-i-test.true))
 
 pub returns : goal.returns
 returns g c = λ book is.
     c.loop-i.invariant book is
-    ∙ ap (λ (edges : List (ℕ × ℕ)). with_edges book c.args.of.now edges c.args.trials.now) (take_all c.loop-i.i-index c.args.edges.now c.loop-i-test.false)
+    ∙ ap (λ (edges : List (ℕ × ℕ)). with_edges book c.args.of.now edges c.args.trials.now)
+    (take_all c.loop-i.i-index c.args.edges.now c.loop-i-test.false)

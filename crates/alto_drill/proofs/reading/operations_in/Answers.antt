@@ -8,4 +8,5 @@ operations_said-requires c = (c.requires.0, read_as _ _ _ (rw c.in-Some.is at c.
 pub returns : goal.returns
 returns c =
     IfOk-weaker c.operations_said.result _ _
-    (λ ops made changes is. made changes (read_as _ _ _ (rw c.in-Some.is at c.in_ok-said.ensures) is)) c.operations_said.ensures
+    (λ ops made changes is. made changes (read_as _ _ _ (rw c.in-Some.is at c.in_ok-said.ensures) is))
+    c.operations_said.ensures

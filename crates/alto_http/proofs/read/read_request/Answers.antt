@@ -3,7 +3,8 @@ use Rattle.alto_http.specs.declared.fault.HeadFault.TheVariants.{Cut, ReadFault}
 use Rattle.alto_http.specs.Request.{Passes, FailsBy}
 use Rattle.alto_http.specs.Splits.{IsBlank, EndsInside}
 use Rattle.alto_http.proofs.Ahead.{ahead_whole, whole_same, whole_taken}
-use Rattle.alto_http.proofs.Answered.{head_refused, at_end, refused_head, cut_in_body, begins_with, unfinished_body, body_unfinished}
+use Rattle.alto_http.proofs.Answered.{head_refused, at_end, refused_head, cut_in_body, begins_with, unfinished_body}
+use Rattle.alto_http.proofs.Answered.{body_unfinished}
 use Rattle.alto_http.proofs.read.read_request.Goals as goal
 
 pub returns-in-Ok-None-clause-none : goal.returns-in-Ok-None-clause-none
@@ -54,7 +55,10 @@ returns-in-Ok-take_body-clause-request g c =
 
 pub returns-in-Ok-take_body-clause-whole : goal.returns-in-Ok-take_body-clause-whole
 returns-in-Ok-take_body-clause-whole g c =
-    whole_taken _ _ _ _ _ _ _ c.find_head.ensures.ahead (c.in-Ok-take_body.body.items, rw c.consume.ensures at c.in-Ok-take_body.ensures.ok)
+    whole_taken _ _ _ _ _ _ _ c.find_head.ensures.ahead (
+      c.in-Ok-take_body.body.items,
+      rw c.consume.ensures at c.in-Ok-take_body.ensures.ok,
+    )
 
 pub returns-in-Err-take_body-clause-cut : goal.returns-in-Err-take_body-clause-cut
 returns-in-Err-take_body-clause-cut g c is =

@@ -25,7 +25,8 @@ returns-clause-err g c =
     (λ t. (
       ahead ++ t.0,
       body_cut ahead into t.0 _ _ n count t.1 t.2
-          ∙ ap (λ xs. followed_by ((ahead ++ t.0) ++ xs) (g.L.Link.left c.read_full.new.link)) (sym c.hand_over-ahead.ensures.rest),
+          ∙ ap (λ xs. followed_by ((ahead ++ t.0) ++ xs) (g.L.Link.left c.read_full.new.link))
+          (sym c.hand_over-ahead.ensures.rest),
     ))
     c.read_full.ensures.err
 

@@ -5,4 +5,5 @@ use Rattle.alto_hub.proofs.TurnLemmas.{turns}
 use Rattle.alto_hub.proofs.place.enter_by.Goals as goal
 
 pub enter_as-requires : goal.enter_as-requires
-enter_as-requires g c x views held = turns g.J.Naming.opening after_entry (λ v log. refl) _ _ (log_of x) views held.0.led held
+enter_as-requires g c x views held = turns g.J.Naming.opening after_entry (λ v log. refl) _ _ (log_of x)
+    views held.0.led held

@@ -11,7 +11,8 @@ use Rattle.alto_serve.proofs.serve.serve_conn.Given as goal
 -- is kept stands for it where it did, and was clean where it is
 abbrev pub invariant-loop-count : goal.invariant-loop-count
 invariant-loop-count g l =
-    let setting = setting_of (client_of l.fn.side l.fn.peer) (g.C.Clock.tells l.fn.clock) g.F.Looks.alone l.fn.most_waits in
+    let setting = setting_of (client_of l.fn.side l.fn.peer) (g.C.Clock.tells l.fn.clock) g.F.Looks.alone
+    l.fn.most_waits in
     record {
       served : Becomes setting (HasServed setting l._count)
           (state (g.F.Looks.known l.fn.office) (g.L.Link.left l.fn.link) (g.L.Link.out l.fn.link))

@@ -11,7 +11,8 @@ pub returns-clause-ok : goal.returns-clause-ok
 returns-clause-ok g c =
     let before = g.L.Link.out c.args.link.now in
     on_ok_weaker c.write_all-2.result
-    (λ out. out ∙ (ap (λ o. extended o c.args.rest.now) c.in_ok-write_all.ensures.ok ∙ extended_on before c.args.front.now c.args.rest.now))
+    (λ out. out ∙ (ap (λ o. extended o c.args.rest.now) c.in_ok-write_all.ensures.ok
+    ∙ extended_on before c.args.front.now c.args.rest.now))
     c.write_all-2.ensures.ok
 
 pub returns-clause-err : goal.returns-clause-err

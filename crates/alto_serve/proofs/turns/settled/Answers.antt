@@ -16,7 +16,8 @@ returns-then-not-is_pending-clause-ok g c =
 pub loop-wait-preserved : goal.loop-wait-preserved
 loop-wait-preserved g c =
     let held : is_pending c.in_ok-look.look.answer ≡ true = cc in
-    let one_left : c.args.most_waits - c.loop-wait._wait ≡ suc (c.args.most_waits - (c.loop-wait._wait + 1)) = omega arith in
+    let one_left : c.args.most_waits - c.loop-wait._wait ≡ suc (c.args.most_waits - (c.loop-wait._wait + 1)) =
+    omega arith in
     let waits = rw c.in_ok-look.ensures.number at c.wait.ensures.waited in
     record {
       come = turn_waits _ _ _ _ _ _ _ _ _ c.loop-wait.invariant.come _ _ _ held one_left c.in_ok-look.ensures.answer

@@ -7,7 +7,8 @@ use Rattle.alto_serve.proofs.turns.settled.Given as goal
 abbrev pub invariant-loop-wait : goal.invariant-loop-wait
 invariant-loop-wait g l = record {
   come : Emits g.F.Looks.alone
-      (λ events. Reaches l.fn.client l.fn.request (looks_next l.fn.most_waits) events (looks_next (l.fn.most_waits - l._wait)))
+      (λ events. Reaches l.fn.client l.fn.request (looks_next l.fn.most_waits)
+      events (looks_next (l.fn.most_waits - l._wait)))
       (g.F.Looks.known l.fn.office) (g.F.Looks.known l.office);
   backed : g.F.Looks.is_backed l.fn.office → g.F.Looks.is_backed l.office;
   clean : g.F.Looks.is_clean l.office → g.F.Looks.is_clean l.fn.office;

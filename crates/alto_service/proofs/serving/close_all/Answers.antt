@@ -5,7 +5,8 @@ use Rattle.alto_service.proofs.serving.close_all.Goals as goal
 
 pub loop-worker-preserved : goal.loop-worker-preserved
 loop-worker-preserved g c =
-    let parts = all_parted c.in-Some.ensures.steps.0 (λ worker. is_served (g.D.Door.Door.state worker.door) ≡ true) c.loop-worker.invariant.ended in
+    let parts = all_parted c.in-Some.ensures.steps.0 (λ worker. is_served (g.D.Door.Door.state worker.door) ≡ true)
+    c.loop-worker.invariant.ended in
     let n = c.loop-worker.invariant.counted.0 in
     let all : suc n + length c.next.new.self.rest.items ≡ length c.args.workers.items = search (rules, arith) in
     record {

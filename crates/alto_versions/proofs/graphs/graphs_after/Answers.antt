@@ -12,7 +12,8 @@ use Rattle.alto_versions.proofs.graphs.graphs_after.Goals as goal
 
 pub loop-of-init : goal.loop-of-init
 loop-of-init g c =
-    let all = c.into_iter-of-iterator.ensures.into_iter_gives.0 ∙ (c.in_ok-of-items.ensures ∙ ap resources_of (ap g.R.RowStore.rows c.deref.ensures)) in
+    let all = c.into_iter-of-iterator.ensures.into_iter_gives.0
+    ∙ (c.in_ok-of-items.ensures ∙ ap resources_of (ap g.R.RowStore.rows c.deref.ensures)) in
     record {
       declared = rw all (resources_declared (g.R.RowStore.rows (arc_value c.args.rows.now)));
       whole = rw (c.new-after.ensures.items, all) refl;
@@ -30,11 +31,13 @@ graph_after-requires-clause-text g c =
 pub loop-of-preserved : goal.loop-of-preserved
 loop-of-preserved g c =
     let rows = g.R.RowStore.rows (arc_value c.args.rows.now) in
-    let front : c.loop-of.of-iterator.rest.items ≡ c.in-Some.of ∷ c.next.new.self.rest.items = c.in-Some.ensures.steps.0 in
+    let front : c.loop-of.of-iterator.rest.items ≡ c.in-Some.of ∷ c.next.new.self.rest.items =
+    c.in-Some.ensures.steps.0 in
     record {
       declared = (rw front at c.loop-of.invariant.declared).1;
       whole =
-          matched_step rows c.args.writes.now (entries c.loop-of.after.items) _ (entries c.loop-of.left.now) (entries c.graphs_from-left.result.now) _
+          matched_step rows c.args.writes.now (entries c.loop-of.after.items) _ (entries c.loop-of.left.now)
+          (entries c.graphs_from-left.result.now) _
           c.loop-of.of-iterator.rest.items _ c.in-Some.of _ _
           c.in-Some.ensures.steps.0
           (ap entries c.in_ok-push.ensures.items ∙ map-append _ c.loop-of.after.items _)
@@ -46,10 +49,12 @@ loop-of-preserved g c =
 
 pub returns-clause-later : goal.returns-clause-later
 returns-clause-later g c = λ book batch legal legal_with rows writes graphs.
-    matched_end _ _ (entries c.loop-of.after.items) _ _ c.loop-of.of-iterator.rest.items (omega (arith, c.loop-of.of-iterator.rest.ok, c.in-None.ensures.steps.0)) c.loop-of.invariant.whole
+    matched_end _ _ (entries c.loop-of.after.items) _ _ c.loop-of.of-iterator.rest.items
+    (omega (arith, c.loop-of.of-iterator.rest.ok, c.in-None.ensures.steps.0)) c.loop-of.invariant.whole
     ∙ (rw (rows, writes, graphs) (graphs_grown book batch legal legal_with))
 
 pub returns-clause-first : goal.returns-clause-first
 returns-clause-first g c = λ book none rows graphs writes.
-    matched_end _ _ (entries c.loop-of.after.items) _ _ c.loop-of.of-iterator.rest.items (omega (arith, c.loop-of.of-iterator.rest.ok, c.in-None.ensures.steps.0)) c.loop-of.invariant.whole
+    matched_end _ _ (entries c.loop-of.after.items) _ _ c.loop-of.of-iterator.rest.items
+    (omega (arith, c.loop-of.of-iterator.rest.ok, c.in-None.ensures.steps.0)) c.loop-of.invariant.whole
     ∙ (rw (graphs, writes) (graphs_of_base book _ c.requires.good none rows))

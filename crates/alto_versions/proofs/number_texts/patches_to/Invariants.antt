@@ -6,4 +6,5 @@ use Rattle.alto_versions.proofs.number_texts.patches_to.Given as goal
 
 abbrev pub invariant-loop-stride : goal.invariant-loop-stride
 invariant-loop-stride g l =
-    All (λ patch. (form : PatchForm) → IsPatchText l.graph l.of form patch.from l.graph.last (text_in_form patch form)) l.patches.items
+    All (λ patch. (form : PatchForm)
+    → IsPatchText l.graph l.of form patch.from l.graph.last (text_in_form patch form)) l.patches.items

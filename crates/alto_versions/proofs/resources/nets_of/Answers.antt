@@ -7,5 +7,6 @@ use Rattle.alto_versions.proofs.resources.nets_of.Goals as goal
 pub loop-row-init : goal.loop-row-init
 loop-row-init g c =
     let rows = g.R.RowStore.rows c.args.rows.now in
-    let walk : c.into_iter-row-iterator.result ≡ rows_in rows span.Nets = c.into_iter-row-iterator.ensures.into_iter_gives ∙ c.rows_in-row-items.ensures in
+    let walk : c.into_iter-row-iterator.result ≡ rows_in rows span.Nets =
+    c.into_iter-row-iterator.ensures.into_iter_gives ∙ c.rows_in-row-items.ensures in
     rw (c.new-nets.ensures.items, walk) (nets_in_span rows)

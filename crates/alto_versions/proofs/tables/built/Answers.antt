@@ -5,4 +5,5 @@ use Rattle.pid_prefix.specs.Longest.{AreDistinct}
 
 pub build-requires : goal.build-requires
 build-requires g c =
-    subst AreDistinct (sym (c.deref.ensures.value ∙ c.in_ok-prefixes.ensures)) (prefixes_distinct (g.R.RowStore.rows c.args.rows.now) c.args.net.now c.requires)
+    subst AreDistinct (sym (c.deref.ensures.value ∙ c.in_ok-prefixes.ensures))
+    (prefixes_distinct (g.R.RowStore.rows c.args.rows.now) c.args.net.now c.requires)

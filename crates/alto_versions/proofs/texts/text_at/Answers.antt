@@ -8,7 +8,8 @@ use Rattle.alto_versions.proofs.texts.text_at.Goals as goal
 pub returns-then-is_empty : goal.returns-then-is_empty
 returns-then-is_empty g c =
     let keys = c.args.keys.now in
-    let none : keys ≡ [] = nil_from_length keys (eqb-true (length keys) 0 (sym c.is_empty.ensures ∙ c.if-is_empty.true)) in
+    let none : keys ≡ [] = nil_from_length
+    keys (eqb-true (length keys) 0 (sym c.is_empty.ensures ∙ c.if-is_empty.true)) in
     IfOk-weaker c.try_clone.result _ _
     (λ after is before differ had. is ∙ (had ∙ stays c.args.of.now before _ keys none differ))
     c.try_clone.ensures

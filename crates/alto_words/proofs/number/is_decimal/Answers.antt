@@ -9,6 +9,7 @@ pub returns-then-not-is_empty : goal.returns-then-not-is_empty
 returns-then-not-is_empty c =
     let xs = c.args.bytes.now in
     let all : c.all.result ≡ list_all is_ascii_digit xs =
-    all_from_yields_List is_ascii_digit _ _ c.all.result c.all.ensures.ran (YieldsList-from_slice xs c.iter.ensures.rest)
+    all_from_yields_List is_ascii_digit _ _ c.all.result c.all.ensures.ran
+    (YieldsList-from_slice xs c.iter.ensures.rest)
     (λ x b q k. search (rules, tests)) in
     grind (arith, all)

@@ -8,7 +8,8 @@ use Rattle.alto_words.proofs.reading.task_found.Goals as goal
 pub returns-in-Some-read-clause-gives : goal.returns-in-Some-read-clause-gives
 returns-in-Some-read-clause-gives c =
     subst (λ (meant : Option Task). Gives meant c.task_in.result)
-    (task_is _ _ (found_of c.in-Some.values.now) _ (found_is _ _ _ c.in-Some.ensures.name c.in-Some.ensures.rows) (sym c.read.ensures ∙ c.in-Some-read.is))
+    (task_is _ _ (found_of c.in-Some.values.now) _ (found_is _ _ _ c.in-Some.ensures.name c.in-Some.ensures.rows)
+    (sym c.read.ensures ∙ c.in-Some-read.is))
     c.task_in.ensures.gives
 
 pub returns-in-None-clause-gives : goal.returns-in-None-clause-gives

@@ -9,4 +9,5 @@ use Rattle.base_check.proofs.numbered.some_misnumbered.Goals as goal
 pub loop-row-init : goal.loop-row-init
 loop-row-init g c =
     ap (λ (rows : Rows). list_any (is_misnumbered (g.R.RowStore.rows c.args.rows.now) c.args.number) rows)
-    (c.into_iter-row-iterator.ensures.into_iter_gives ∙ (c.walk_from-row-items.ensures ∙ all_from_first (g.R.RowStore.rows c.args.rows.now)))
+    (c.into_iter-row-iterator.ensures.into_iter_gives
+    ∙ (c.walk_from-row-items.ensures ∙ all_from_first (g.R.RowStore.rows c.args.rows.now)))

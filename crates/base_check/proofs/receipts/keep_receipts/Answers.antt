@@ -10,5 +10,6 @@ returns-then-not-never_fall c = fall c.args.receipts.now (sym c.never_fall.ensur
 pub returns : goal.returns
 returns c =
     IfOk-weaker c.are_distinct.result _ _
-    (λ distinct decides. ids_decide c.args.receipts.now distinct (sym c.never_fall.ensures ∙ c.if-not-never_fall.false) decides)
+    (λ distinct decides. ids_decide c.args.receipts.now distinct (sym c.never_fall.ensures
+    ∙ c.if-not-never_fall.false) decides)
     c.are_distinct.ensures

@@ -15,7 +15,10 @@ returns c =
     let none = c.new-pieces.result.items in
     let first = ap (map vec_items) c.in_ok-push.ensures.items ∙ map_push vec_items none c.in_ok-encode_first.field-0
     ∙ ap (λ p. map vec_items none ++ (p ∷ [])) (c.in_ok-encode_first.ensures ∙ ap (first_piece inside.b) count) in
-    let receipts = c.in_ok-push_receipts.ensures ∙ ap (λ t. map vec_items c.push.new.self.items ++ map receipts_piece (parts t)) c.deref.ensures.value in
-    let rows = c.in_ok-push_rows.ensures ∙ ap (λ t. map vec_items c.push_receipts.new.pieces.items ++ map rows_piece (parts t)) c.deref-2.ensures.value in
-    joined_pieces base (map vec_items none) (map vec_items c.push.new.self.items) (map vec_items c.push_receipts.new.pieces.items) (map vec_items c.push_rows.new.pieces.items)
+    let receipts = c.in_ok-push_receipts.ensures
+    ∙ ap (λ t. map vec_items c.push.new.self.items ++ map receipts_piece (parts t)) c.deref.ensures.value in
+    let rows = c.in_ok-push_rows.ensures
+    ∙ ap (λ t. map vec_items c.push_receipts.new.pieces.items ++ map rows_piece (parts t)) c.deref-2.ensures.value in
+    joined_pieces base (map vec_items none) (map vec_items c.push.new.self.items)
+    (map vec_items c.push_receipts.new.pieces.items) (map vec_items c.push_rows.new.pieces.items)
     some (ap (map vec_items) c.new-pieces.ensures.items) first receipts rows ∙ ap base_pieces same

@@ -5,4 +5,5 @@ use Rattle.base_code.specs.Bases.{write_of}
 use Rattle.base_code.proofs.encoding.encode_rows.Given as goal
 
 abbrev pub invariant-loop-row : goal.invariant-loop-row
-invariant-loop-row l = l.out.items ≡ l.initial.out.items ++ flat_map write_bytes (map write_of (take l.row-index l.rows))
+invariant-loop-row l = l.out.items
+    ≡ l.initial.out.items ++ flat_map write_bytes (map write_of (take l.row-index l.rows))

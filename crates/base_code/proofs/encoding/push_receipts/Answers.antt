@@ -10,7 +10,8 @@ pub loop-part-init : goal.loop-part-init
 loop-part-init c =
     rw c.into_iter-part-iterator.ensures.into_iter_gives (record {
       size = c.chunks-part-items.ensures.size;
-      has = rw c.chunks-part-items.ensures.rest (pieces_start receipts_piece c.args.receipts.now (map vec_items c.args.pieces.now.items));
+      has = rw c.chunks-part-items.ensures.rest
+          (pieces_start receipts_piece c.args.receipts.now (map vec_items c.args.pieces.now.items));
     })
 
 pub loop-part-preserved : goal.loop-part-preserved
@@ -20,7 +21,10 @@ loop-part-preserved c =
     ∙ ap (λ p. map vec_items now ++ (p ∷ [])) c.in_ok-encode_receipts.ensures in
     record {
       size = c.in-Some.ensures.steps.0 ∙ c.loop-part.invariant.size;
-      has = pieces_on receipts_piece c.args.receipts.now (chunks_rest c.loop-part.part-iterator) c.in-Some.part.now (chunks_rest c.next.new.self) (map vec_items c.args.pieces.now.items)
-          (map vec_items now) (map vec_items c.push.new.self.items) c.loop-part.invariant.has c.in-Some.ensures.steps.1.0
-          (c.in-Some.ensures.steps.1.1 ∙ ap (λ n. min n (length (chunks_rest c.loop-part.part-iterator))) c.loop-part.invariant.size) c.in-Some.ensures.steps.1.2 made;
+      has = pieces_on receipts_piece c.args.receipts.now (chunks_rest c.loop-part.part-iterator) c.in-Some.part.now
+          (chunks_rest c.next.new.self) (map vec_items c.args.pieces.now.items)
+          (map vec_items now) (map vec_items c.push.new.self.items) c.loop-part.invariant.has
+          c.in-Some.ensures.steps.1.0
+          (c.in-Some.ensures.steps.1.1 ∙ ap (λ n. min n (length (chunks_rest c.loop-part.part-iterator)))
+          c.loop-part.invariant.size) c.in-Some.ensures.steps.1.2 made;
     }

@@ -8,5 +8,6 @@ use Rattle.base_code.proofs.encoding.push_receipts.Given as goal
 abbrev pub invariant-loop-part : goal.invariant-loop-part
 invariant-loop-part l = record {
   size : chunks_size l.part-iterator ≡ 4096;
-  has : HasPieces receipts_piece l.receipts (chunks_rest l.part-iterator) (map vec_items l.initial.pieces.items) (map vec_items l.pieces.items);
+  has : HasPieces receipts_piece l.receipts (chunks_rest l.part-iterator) (map vec_items l.initial.pieces.items)
+      (map vec_items l.pieces.items);
 }

@@ -6,7 +6,8 @@ use Rattle.base_code.proofs.laws.base_of_i1.Goals as goal
 
 pieces : (digest : List ℕ) → base_pieces (base_behind_i1 digest) ≡ first_of_i1 ∷ receipts_of_i1 digest ∷ rows_of_i1 ∷ []
 unfolding base_pieces parts
-pieces digest = ap (λ t. first_of_i1 ∷ (0x44 ∷ 0x01 ∷ 0x00 ∷ 0x01 ∷ 0x02 ∷ 0x69 ∷ 0x31 ∷ t) ∷ rows_of_i1 ∷ []) (append-nil (digest ++ (0 ∷ 0 ∷ 0 ∷ 0 ∷ 0 ∷ 0 ∷ 0 ∷ 100 ∷ [])))
+pieces digest = ap (λ t. first_of_i1 ∷ (0x44 ∷ 0x01 ∷ 0x00 ∷ 0x01 ∷ 0x02 ∷ 0x69 ∷ 0x31 ∷ t) ∷ rows_of_i1 ∷ [])
+    (append-nil (digest ++ (0 ∷ 0 ∷ 0 ∷ 0 ∷ 0 ∷ 0 ∷ 0 ∷ 100 ∷ [])))
 
 size : (digest : List ℕ) → length digest ≡ 32 → length (receipts_of_i1 digest) ≡ 47
 size digest e =

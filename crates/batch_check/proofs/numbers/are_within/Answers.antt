@@ -7,6 +7,7 @@ use Rattle.batch_check.proofs.numbers.are_within.Goals as goal
 pub returns : goal.returns
 returns g c =
     IfOk-weaker c.nets_fit.result _ _
-    (λ fit is. within_told (g.R.RowStore.rows c.args.rows.now) fit c.requires (omega (arith, c.len.ensures.count, c.if-len-gt-MOST_ROWS.false))
+    (λ fit is. within_told (g.R.RowStore.rows c.args.rows.now) fit
+    c.requires (omega (arith, c.len.ensures.count, c.if-len-gt-MOST_ROWS.false))
     (omega (arith, c.count_in.ensures.count, c.if-count_in-gt-MOST_NETS.false)) is)
     c.nets_fit.ensures

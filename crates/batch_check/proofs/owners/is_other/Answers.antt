@@ -7,7 +7,9 @@ use Rattle.batch_check.proofs.owners.is_other.Goals as goal
 
 pub returns-in-Some : goal.returns-in-Some
 returns-in-Some c =
-    rw (← by_place_cmp (λ R. Some c.in-Some.owner.now ≡ map.get R c.args.owners.now c.args.place.now) c.in-Some.ensures.value) c.ne.ensures
+    rw (← by_place_cmp (λ R. Some c.in-Some.owner.now ≡ map.get R c.args.owners.now c.args.place.now)
+    c.in-Some.ensures.value) c.ne.ensures
 
 pub returns-in-None : goal.returns-in-None
-returns-in-None c = rw (← by_place_cmp (λ R. None ≡ map.get R c.args.owners.now c.args.place.now) c.in-None.ensures.value) refl
+returns-in-None c = rw (← by_place_cmp (λ R. None ≡ map.get R c.args.owners.now c.args.place.now)
+    c.in-None.ensures.value) refl

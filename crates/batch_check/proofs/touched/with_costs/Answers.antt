@@ -14,5 +14,7 @@ use Rattle.batch_check.proofs.touched.with_costs.Goals as goal
 pub loop-row-preserved-in-Some-2 : goal.loop-row-preserved-in-Some-2
 loop-row-preserved-in-Some-2 g c =
     with_cost c.loop-row.all c.in_ok-all.all c.loop-row.row-iterator c.next.new.self c.in-Some.row.now c.in-Some-2.cost
-    (λ one. contains resource_cmp c.args.touched one || is_among one (filter_map cost_declared (rows_in (g.R.RowStore.rows c.args.rows.now) (span.Metrics c.args.net.now))))
+    (λ one. contains resource_cmp c.args.touched one
+    || is_among one (filter_map cost_declared (rows_in (g.R.RowStore.rows c.args.rows.now)
+    (span.Metrics c.args.net.now))))
     c.in-Some.ensures.steps (sym c.in-Some-2.is ∙ c.in_ok-cost.ensures) c.in_ok-all.ensures c.loop-row.invariant

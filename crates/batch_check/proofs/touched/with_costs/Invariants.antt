@@ -14,4 +14,5 @@ use Rattle.batch_check.proofs.touched.with_costs.Given as goal
 abbrev pub invariant-loop-row : goal.invariant-loop-row
 invariant-loop-row g l = (one : Resource)
     → (contains resource_cmp l.all one || is_among one (filter_map cost_declared l.row-iterator))
-    ≡ (contains resource_cmp l.fn.touched one || is_among one (filter_map cost_declared (rows_in (g.R.RowStore.rows l.rows) (span.Metrics l.net))))
+    ≡ (contains resource_cmp l.fn.touched one
+    || is_among one (filter_map cost_declared (rows_in (g.R.RowStore.rows l.rows) (span.Metrics l.net))))

@@ -6,4 +6,5 @@ use Rattle.batch_check.proofs.versions.are_same.Given as goal
 
 abbrev pub invariant-loop-index : goal.invariant-loop-index
 invariant-loop-index l =
-    pointwise gives_version (drop l.index l.writes) (drop l.index l.versions) ≡ pointwise gives_version l.writes l.versions
+    pointwise gives_version (drop l.index l.writes) (drop l.index l.versions)
+    ≡ pointwise gives_version l.writes l.versions

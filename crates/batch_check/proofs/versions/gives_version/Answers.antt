@@ -10,7 +10,8 @@ use Rattle.batch_check.proofs.versions.gives_version.Goals as goal
 pub returns-then-is_eq : goal.returns-then-is_eq
 returns-then-is_eq c =
     let same : is_eq (key_cmp c.args.write.now.key c.args.version.now.key) ≡ true =
-    ap is_eq (sym (c.cmp.ensures ∙ derived_key_cmp c.args.write.now.key c.args.version.now.key)) ∙ (sym c.is_eq.ensures ∙ c.if-is_eq.true) in
+    ap is_eq (sym (c.cmp.ensures ∙ derived_key_cmp c.args.write.now.key c.args.version.now.key))
+    ∙ (sym c.is_eq.ensures ∙ c.if-is_eq.true) in
     rw (
       same,
       c.number_in.ensures ∙ ap number_in c.as_ref.ensures.value,
@@ -20,5 +21,6 @@ returns-then-is_eq c =
 pub returns-else-is_eq : goal.returns-else-is_eq
 returns-else-is_eq c =
     let apart : is_eq (key_cmp c.args.write.now.key c.args.version.now.key) ≡ false =
-    ap is_eq (sym (c.cmp.ensures ∙ derived_key_cmp c.args.write.now.key c.args.version.now.key)) ∙ (sym c.is_eq.ensures ∙ c.if-is_eq.false) in
+    ap is_eq (sym (c.cmp.ensures ∙ derived_key_cmp c.args.write.now.key c.args.version.now.key))
+    ∙ (sym c.is_eq.ensures ∙ c.if-is_eq.false) in
     rw (apart, c.if-is_eq.false) refl

@@ -6,5 +6,6 @@ use Rattle.batch_check.proofs.versions.touched.Goals as goal
 pub returns : goal.returns
 returns g c =
     IfOk-weaker c.all_dependents.result _ _
-    (λ all joined. has_touched (g.R.RowStore.rows c.args.rows.now) c.args.writes.now c.in_ok-parts.parts all c.requires.sorted c.in_ok-parts.ensures joined)
+    (λ all joined. has_touched (g.R.RowStore.rows c.args.rows.now) c.args.writes.now c.in_ok-parts.parts all
+    c.requires.sorted c.in_ok-parts.ensures joined)
     c.all_dependents.ensures

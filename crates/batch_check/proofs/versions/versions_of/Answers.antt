@@ -16,8 +16,11 @@ returns g c =
     let rows = g.R.RowStore.rows c.args.rows.now in
     let all : c.loop-of.yielded ≡ c.in_ok-of-items.of-items.keys =
     sym (map-id c.loop-of.yielded)
-    ∙ (iter_end (λ (x : Resource). x) c.in_ok-of-items.of-items.keys c.loop-of.yielded _ _ _ _ given.0 c.loop-of.yielded_by c.in-None.is c.next.ensures.steps).0 in
+    ∙ (iter_end (λ (x : Resource). x) c.in_ok-of-items.of-items.keys c.loop-of.yielded _ _ _ _ given.0
+    c.loop-of.yielded_by c.in-None.is c.next.ensures.steps).0 in
     c.loop-of.invariant
-    ∙ (ap (λ (ofs : List Resource). map (next_version rows) (filter (is_declared (g.R.RowStore.rows c.args.next.now)) ofs)) all
-    ∙ batch_versions rows (g.R.RowStore.rows c.args.next.now) c.args.writes.now c.in_ok-of-items.of-items c.requires.good.sorted c.requires.next
+    ∙ (ap (λ (ofs : List Resource). map (next_version rows)
+    (filter (is_declared (g.R.RowStore.rows c.args.next.now)) ofs)) all
+    ∙ batch_versions rows (g.R.RowStore.rows c.args.next.now) c.args.writes.now c.in_ok-of-items.of-items
+    c.requires.good.sorted c.requires.next
     (by_resource_cmp (λ R. IsOrdered R c.in_ok-of-items.of-items) given.4) c.in_ok-of-items.ensures)

@@ -7,4 +7,5 @@ use Rattle.batch_check.proofs.versions.versions_of.Given as goal
 
 abbrev pub invariant-loop-of : goal.invariant-loop-of
 invariant-loop-of g l =
-    l.versions.items ≡ map (next_version (g.R.RowStore.rows l.rows)) (filter (is_declared (g.R.RowStore.rows l.next)) l.yielded)
+    l.versions.items ≡ map (next_version (g.R.RowStore.rows l.rows))
+    (filter (is_declared (g.R.RowStore.rows l.next)) l.yielded)

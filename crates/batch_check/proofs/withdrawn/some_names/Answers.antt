@@ -9,4 +9,5 @@ use Rattle.batch_check.proofs.withdrawn.some_names.Goals as goal
 pub loop-row-init : goal.loop-row-init
 loop-row-init g c =
     ap (λ (rows : Rows). list_any (names_some c.args.gone.now) rows)
-    (c.into_iter-row-iterator.ensures.into_iter_gives ∙ (c.walk_from-row-items.ensures ∙ all_from_first (g.R.RowStore.rows c.args.next.now)))
+    (c.into_iter-row-iterator.ensures.into_iter_gives
+    ∙ (c.walk_from-row-items.ensures ∙ all_from_first (g.R.RowStore.rows c.args.next.now)))

@@ -5,4 +5,5 @@ use Rattle.batch_check.specs.Named.{names_some}
 use Rattle.batch_check.proofs.withdrawn.some_names.Given as goal
 
 abbrev pub invariant-loop-row : goal.invariant-loop-row
-invariant-loop-row g l = list_any (names_some l.gone) l.row-iterator ≡ list_any (names_some l.gone) (g.R.RowStore.rows l.next)
+invariant-loop-row g l = list_any (names_some l.gone) l.row-iterator
+    ≡ list_any (names_some l.gone) (g.R.RowStore.rows l.next)

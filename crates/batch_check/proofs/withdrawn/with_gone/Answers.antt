@@ -11,5 +11,6 @@ pub returns : goal.returns
 returns g c =
     IfOk-weaker c.with_key.result _ _
     (λ all more. gone_more (is_gone (g.R.RowStore.rows c.args.next.now) c.args.key.now) c.args.key.now c.args.gone all
-    (and_from _ _ (sym c.declares.ensures ∙ c.if-not-declares.false) (ap not (sym c.has_row.ensures ∙ c.if-has_row.false))) more)
+    (and_from _ _ (sym c.declares.ensures ∙ c.if-not-declares.false)
+    (ap not (sym c.has_row.ensures ∙ c.if-has_row.false))) more)
     c.with_key.ensures

@@ -14,12 +14,14 @@ returns-in_err-front-clause-stops c =
 pub returns-in_err-moment-clause-stops : goal.returns-in_err-moment-clause-stops
 returns-in_err-moment-clause-stops c =
     let p = err_from_is_err_and c.from_residual-in_err-moment.result c.from_residual-in_err-moment.ensures.1 in
-    rw (p.1, p.2) (moment_stops c.args.bytes.now c.in_ok-front.front.now c.in_ok-front.rest.now c.in_err-moment.field-0.0 c.in_ok-front.ensures.ok.0 c.in_ok-front.ensures.ok.1 c.in_err-moment.ensures.stops)
+    rw (p.1, p.2) (moment_stops c.args.bytes.now c.in_ok-front.front.now c.in_ok-front.rest.now
+    c.in_err-moment.field-0.0 c.in_ok-front.ensures.ok.0 c.in_ok-front.ensures.ok.1 c.in_err-moment.ensures.stops)
 
 pub returns-in_err-writes-clause-stops : goal.returns-in_err-writes-clause-stops
 returns-in_err-writes-clause-stops c =
     let p = err_from_is_err_and c.from_residual-in_err-writes.result c.from_residual-in_err-writes.ensures.1 in
-    rw (p.1, p.2) (writes_stop c.args.bytes.now c.in_ok-front.front.now c.in_ok-front.rest.now c.in_ok-moment.rest.now c.in_ok-moment.moment c.in_err-writes.field-0.0 c.in_ok-front.ensures.ok.0 c.in_ok-front.ensures.ok.1
+    rw (p.1, p.2) (writes_stop c.args.bytes.now c.in_ok-front.front.now c.in_ok-front.rest.now c.in_ok-moment.rest.now
+    c.in_ok-moment.moment c.in_err-writes.field-0.0 c.in_ok-front.ensures.ok.0 c.in_ok-front.ensures.ok.1
     c.in_ok-moment.ensures.ok.1 c.in_ok-moment.ensures.ok.2 c.in_err-writes.ensures.stops)
 
 pub returns-clause-ok : goal.returns-clause-ok
@@ -31,7 +33,8 @@ returns-clause-ok c =
       omega (arith, c.in_ok-moment.ensures.ok.1),
       c.in_ok-writes.ensures.ok.0,
       c.in_ok-writes.ensures.ok.1,
-      body_read c.args.bytes.now c.in_ok-front.front.now c.in_ok-front.rest.now c.in_ok-moment.rest.now c.in_ok-writes.rest.now list c.in_ok-moment.moment
+      body_read c.args.bytes.now c.in_ok-front.front.now c.in_ok-front.rest.now c.in_ok-moment.rest.now
+          c.in_ok-writes.rest.now list c.in_ok-moment.moment
           c.in_ok-front.ensures.ok.1 c.in_ok-moment.ensures.ok.2 c.in_ok-writes.ensures.ok.2
           ∙ ap (λ t. (t ++ (number 8 c.in_ok-moment.moment ++ list)) ++ c.in_ok-writes.rest.now) (sym d),
     )

@@ -13,7 +13,8 @@ abbrev import_bytes : List ℕ → List ℕ → ℕ → List ℕ
 import_bytes id digest moment = 0x42 ∷ 0x01 ∷ (name id ++ (digest ++ number 8 moment))
 
 joined : (id digest : List ℕ) (moment : ℕ) (writes : List Write)
-    → import_bytes id digest moment ++ list_bytes writes ≡ batch_bytes (record { id = id; digest = digest; moment = moment; writes = writes })
+    → import_bytes id digest moment ++ list_bytes writes
+    ≡ batch_bytes (record { id = id; digest = digest; moment = moment; writes = writes })
 joined id digest moment writes =
     ap (λ t. 0x42 ∷ 0x01 ∷ t) (append_assoc (name id) (digest ++ number 8 moment) (list_bytes writes)
     ∙ ap (λ t. name id ++ t) (append_assoc digest (number 8 moment) (list_bytes writes)))
@@ -25,7 +26,8 @@ returns c =
     let moment = c.batch.inside.moment in
     let writes = c.deref.result.now in
     c.in_ok-push_list.ensures
-    ∙ ap (λ t. t ++ list_bytes writes) (c.in_ok-push_import.ensures ∙ ap (λ t. t ++ import_bytes id digest moment) c.new-out.ensures.items)
+    ∙ ap (λ t. t ++ list_bytes writes) (c.in_ok-push_import.ensures
+    ∙ ap (λ t. t ++ import_bytes id digest moment) c.new-out.ensures.items)
     ∙ joined id digest moment writes
     ∙ ap (λ w. batch_bytes (record { id = id; digest = digest; moment = moment; writes = w })) c.deref.ensures.value
     ∙ ap batch_bytes c.batch.view_is

@@ -10,5 +10,6 @@ returns-in_err-count-clause-stops c =
 pub returns-in_err-writes-clause-stops : goal.returns-in_err-writes-clause-stops
 returns-in_err-writes-clause-stops c =
     let p = err_from_is_err_and c.from_residual-in_err-writes.result c.from_residual-in_err-writes.ensures.1 in
-    rw (p.1, p.2) (lists_next c.in_ok-count.count c.args.bytes.now c.in_ok-count.rest.now c.in_err-writes.field-0.0 c.in_ok-count.ensures.ok.1 c.in_ok-count.ensures.ok.2
+    rw (p.1, p.2) (lists_next c.in_ok-count.count c.args.bytes.now c.in_ok-count.rest.now c.in_err-writes.field-0.0
+    c.in_ok-count.ensures.ok.1 c.in_ok-count.ensures.ok.2
     c.in_err-writes.ensures.stops)

@@ -6,7 +6,8 @@ pub returns-in_err-many : goal.returns-in_err-many
 returns-in_err-many c = rw c.from_residual.ensures (λ text. no_lead c.args.count c.args.byte text c.in_err-many.ensures)
 
 pub returns-then-count-many : goal.returns-then-count-many
-returns-then-count-many c text = no_room c.in_ok-many.many c.args.count c.args.byte text c.in_ok-many.ensures c.if-count-many.true
+returns-then-count-many c text = no_room c.in_ok-many.many c.args.count c.args.byte text c.in_ok-many.ensures
+    c.if-count-many.true
 
 pub returns : goal.returns
 returns c =

@@ -11,7 +11,8 @@ loop-byte-init c =
 pub returns-in_default-behind_byte : goal.returns-in_default-behind_byte
 returns-in_default-behind_byte c =
     let l = c.loop-byte in
-    l.invariant.lifts _ (outside_bad (GoesOn l.at) c.in-Some.byte l.rest.now c.in-Some.after.now l.invariant.some c.in-Some.ensures.0 l.invariant.outside
+    l.invariant.lifts _ (outside_bad (GoesOn l.at) c.in-Some.byte l.rest.now c.in-Some.after.now l.invariant.some
+    c.in-Some.ensures.0 l.invariant.outside
     l.invariant.goes_on c.in_default-behind_byte.ensures)
 
 pub loop-byte-preserved : goal.loop-byte-preserved
@@ -20,9 +21,11 @@ loop-byte-preserved c =
     let passes = c.in-Some-behind_byte.ensures in
     let next = c.in-Some-behind_byte.next in
     record {
-      outside = outside_next (GoesOn l.at) (GoesOn next) c.in-Some.byte l.rest.now c.in-Some.after.now c.in-Some.ensures.0 l.invariant.outside passes.from;
+      outside = outside_next (GoesOn l.at) (GoesOn next) c.in-Some.byte l.rest.now c.in-Some.after.now
+          c.in-Some.ensures.0 l.invariant.outside passes.from;
       lifts = λ left s. l.invariant.lifts left
-          (outside_on (GoesOn l.at) (GoesOn next) c.in-Some.byte l.rest.now c.in-Some.after.now left c.in-Some.ensures.0 l.invariant.outside passes.to passes.from s);
+          (outside_on (GoesOn l.at) (GoesOn next) c.in-Some.byte l.rest.now c.in-Some.after.now left c.in-Some.ensures.0
+          l.invariant.outside passes.to passes.from s);
       some = passes.some;
       goes_on = passes.goes_on;
     }
@@ -30,4 +33,5 @@ loop-byte-preserved c =
 pub returns : goal.returns
 returns c =
     let l = c.loop-byte in
-    l.invariant.lifts 0 (outside_end (GoesOn l.at) l.rest.now l.invariant.some c.in_default.ensures l.invariant.outside l.invariant.goes_on)
+    l.invariant.lifts 0 (outside_end (GoesOn l.at) l.rest.now l.invariant.some c.in_default.ensures l.invariant.outside
+    l.invariant.goes_on)

@@ -5,4 +5,5 @@ pub returns-in_default-clause-stops : goal.returns-in_default-clause-stops
 returns-in_default-clause-stops c = length_none c.args.addr c.args.bytes.now c.in_default.ensures
 
 pub returns-in-None-clause-stops : goal.returns-in-None-clause-stops
-returns-in-None-clause-stops c = length_bad c.args.addr c.in-Some.len c.args.bytes.now c.in-Some.rest.now c.in-Some.ensures.0 c.in-None.ensures
+returns-in-None-clause-stops c = length_bad c.args.addr c.in-Some.len c.args.bytes.now c.in-Some.rest.now
+    c.in-Some.ensures.0 c.in-None.ensures

@@ -10,5 +10,6 @@ returns-in_err-number-clause-stops c =
 pub returns-in_err-prefix-clause-stops : goal.returns-in_err-prefix-clause-stops
 returns-in_err-prefix-clause-stops c =
     let p = err_from_is_err_and c.from_residual-in_err-prefix.result c.from_residual-in_err-prefix.ensures.1 in
-    rw (p.1, p.2) (next4 c.in_ok-number.number c.args.bytes.now c.in_ok-number.rest.now c.in_err-prefix.field-0.0 c.in_ok-number.ensures.ok.1 c.in_ok-number.ensures.ok.2
+    rw (p.1, p.2) (next4 c.in_ok-number.number c.args.bytes.now c.in_ok-number.rest.now c.in_err-prefix.field-0.0
+    c.in_ok-number.ensures.ok.1 c.in_ok-number.ensures.ok.2
     c.in_err-prefix.ensures.stops)

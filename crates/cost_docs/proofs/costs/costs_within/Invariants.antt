@@ -5,4 +5,5 @@ use Rattle.cost_docs.proofs.costs.costs_within.Given as goal
 
 -- the costs that are there, and those of the rows that the walk has left, are all
 abbrev pub invariant-loop-row : goal.invariant-loop-row
-invariant-loop-row g l = l.costs.items ++ filter_map cost_given l.row-iterator ≡ costs_within (g.R.RowStore.rows l.rows) l.fn.span
+invariant-loop-row g l = l.costs.items ++ filter_map cost_given l.row-iterator
+    ≡ costs_within (g.R.RowStore.rows l.rows) l.fn.span

@@ -18,13 +18,15 @@ returns g c =
     let costs : c.deref.result.now ≡ costs_within rows (span.CostsFrom net metric source) =
     c.deref.ensures.value
     ∙ (c.in_ok-costs.ensures
-    ∙ (λ i. costs_within rows (span.CostsFrom (c.in_ok-clone.ensures.cases i) (c.in_ok-clone-2.ensures.cases i) (c.in_ok-clone-3.ensures.cases i)))) in
+    ∙ (λ i. costs_within rows (span.CostsFrom (c.in_ok-clone.ensures.cases i) (c.in_ok-clone-2.ensures.cases i)
+    (c.in_ok-clone-3.ensures.cases i)))) in
     IfOk-weaker c.group_of.result _ _
     (λ tree is.
     is
     ∙ (ap (group_of ranks) costs
     ∙ ap object_of
     (sym
-    (costs_told (λ cost. number_data (option_map (shown ranks) cost)) net metric source rows rows (all_told rows c.requires.sorted)
+    (costs_told (λ cost. number_data (option_map (shown ranks) cost)) net metric source rows
+    rows (all_told rows c.requires.sorted)
     (all_taken rows rows c.requires (all_told rows c.requires.sorted))))))
     c.group_of.ensures

@@ -12,4 +12,5 @@ abbrev pub invariant-loop-cost : goal.invariant-loop-cost
 invariant-loop-cost l =
     let ranks = option_map (λ ranks. ranks.now) l.ranks in
     members_data l.group
-    ≡ members_of (map (λ (cost : Cost). (cost.destination, number_data (Some (shown ranks cost.amount)))) (take l.cost-index l.costs))
+    ≡ members_of (map (λ (cost : Cost). (cost.destination, number_data (Some (shown ranks cost.amount))))
+    (take l.cost-index l.costs))

@@ -10,4 +10,5 @@ abbrev pub invariant-loop-source : goal.invariant-loop-source
 invariant-loop-source g l =
     let rows = g.R.RowStore.rows l.rows in
     let ranks = option_map (λ ranks. ranks.now) l.ranks in
-    members_data l.groups ≡ members_of (map (λ source. (source, group_shown ranks rows l.net l.metric source)) (take l.source-index l.sources))
+    members_data l.groups ≡ members_of (map (λ source. (source, group_shown ranks rows l.net l.metric source))
+    (take l.source-index l.sources))

@@ -14,7 +14,8 @@ returns g c =
     let rows = g.R.RowStore.rows c.args.rows.now in
     let costs : c.deref.result.now ≡ costs_within rows (span.CostsIn net metric) =
     c.deref.ensures.value
-    ∙ (c.in_ok-costs.ensures ∙ (λ i. costs_within rows (span.CostsIn (c.in_ok-clone.ensures.cases i) (c.in_ok-clone-2.ensures.cases i)))) in
+    ∙ (c.in_ok-costs.ensures ∙ (λ i. costs_within
+    rows (span.CostsIn (c.in_ok-clone.ensures.cases i) (c.in_ok-clone-2.ensures.cases i)))) in
     IfOk-weaker c.distinct_sources.result _ _
     (λ sources is.
     is

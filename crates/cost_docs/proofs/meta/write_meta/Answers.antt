@@ -14,7 +14,8 @@ returns g c =
     let metric = c.args.metric.now in
     let rows = g.R.RowStore.rows c.args.rows.now in
     on_ok_weaker c.end_object.result
-    (λ closed. object_of_two (codes "cost-type") (codes "dependent-vtags") (cost_type metric (codes "numerical")) (dependent_tags rows net) c.args.out.now c.begin_object.new.self
+    (λ closed. object_of_two (codes "cost-type") (codes "dependent-vtags") (cost_type metric (codes "numerical"))
+    (dependent_tags rows net) c.args.out.now c.begin_object.new.self
     c.write_cost_type.new.out c.write_dependent_tags.new.out c.end_object.new.self (search rules) (search rules)
     c.in_ok-write_cost_type.ensures c.in_ok-write_dependent_tags.ensures closed (search rules))
     c.end_object.ensures.ok

@@ -14,8 +14,10 @@ loop-row-init g c =
     let rows = g.R.RowStore.rows c.args.rows.now in
     let walk : c.into_iter-row-iterator.result ≡ rows_in rows (span.CostsIn net metric) =
     c.into_iter-row-iterator.ensures.into_iter_gives
-    ∙ (c.rows_in-row-items.ensures ∙ (λ i. rows_in rows (span.CostsIn (c.in_ok-clone.ensures.cases i) (c.in_ok-clone-2.ensures.cases i)))) in
-    ap (λ names. names ++ names_left None (filter_map cost_given c.into_iter-row-iterator.result)) c.new-names.ensures.items
+    ∙ (c.rows_in-row-items.ensures
+    ∙ (λ i. rows_in rows (span.CostsIn (c.in_ok-clone.ensures.cases i) (c.in_ok-clone-2.ensures.cases i)))) in
+    ap (λ names. names ++ names_left None (filter_map cost_given c.into_iter-row-iterator.result))
+    c.new-names.ensures.items
     ∙ ap (λ left. names_left None (filter_map cost_given left)) walk
 
 pub returns : goal.returns

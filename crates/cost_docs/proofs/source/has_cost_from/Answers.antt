@@ -10,6 +10,9 @@ returns g c =
     let metric = c.args.metric.now in
     let rows = g.R.RowStore.rows c.args.rows.now in
     let walk : c.rows_in.result ≡ rows_in rows (span.CostsFrom net metric c.args.source) =
-    c.rows_in.ensures ∙ (λ i. rows_in rows (span.CostsFrom (c.in_ok-clone.ensures.cases i) (c.in_ok-clone-2.ensures.cases i) c.args.source)) in
+    c.rows_in.ensures
+    ∙ (λ i. rows_in rows (span.CostsFrom (c.in_ok-clone.ensures.cases i) (c.in_ok-clone-2.ensures.cases i)
+    c.args.source)) in
     c.is_some.ensures
-    ∙ (given_where c.rows_in.result c.next.new.self c.next.result c.next.ensures.steps ∙ (ap has_rows walk ∙ standing net metric c.args.source rows))
+    ∙ (given_where c.rows_in.result c.next.new.self c.next.result c.next.ensures.steps
+    ∙ (ap has_rows walk ∙ standing net metric c.args.source rows))

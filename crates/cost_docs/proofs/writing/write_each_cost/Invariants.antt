@@ -11,5 +11,6 @@ invariant-loop-row g l =
     let all = costs_within (g.R.RowStore.rows l.rows) (span.CostsIn l.net l.metric) in
     record {
       before : l.out.before ≡ l.initial.out.before;
-      tokens : l.out.tokens ++ tokens_left l.current (filter_map cost_given l.row-iterator) ≡ l.initial.out.tokens ++ tokens_left None all;
+      tokens : l.out.tokens ++ tokens_left l.current (filter_map cost_given l.row-iterator) ≡ l.initial.out.tokens
+          ++ tokens_left None all;
     }

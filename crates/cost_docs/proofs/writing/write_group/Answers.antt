@@ -11,6 +11,7 @@ returns g c =
     on_ok_weaker c.end_object.result
     (λ closed.
     named_value c.args.source.now _ c.args.out.now c.key.new.self c.end_object.new.self (search rules) (search rules)
-    (whole_object members c.key.new.self c.begin_object.new.self c.write_members.new.out c.end_object.new.self (search rules) (search rules)
+    (whole_object members c.key.new.self c.begin_object.new.self c.write_members.new.out c.end_object.new.self
+    (search rules) (search rules)
     c.in_ok-write_members.ensures closed (search rules)))
     c.end_object.ensures.ok

@@ -13,5 +13,6 @@ invariant-loop-row g l =
     let all = costs_within (g.R.RowStore.rows l.rows) (span.CostsFrom l.net l.metric l.source) in
     record {
       before : l.out.before ≡ l.initial.out.before;
-      tokens : l.out.tokens ++ members_tokens (members_outline (listed (filter_map cost_given l.row-iterator))) ≡ l.initial.out.tokens ++ members_tokens (members_outline (listed all));
+      tokens : l.out.tokens ++ members_tokens (members_outline (listed (filter_map cost_given l.row-iterator)))
+          ≡ l.initial.out.tokens ++ members_tokens (members_outline (listed all));
     }

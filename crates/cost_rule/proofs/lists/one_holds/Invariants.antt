@@ -6,4 +6,5 @@ use Rattle.cost_rule.proofs.lists.one_holds.Given as goal
 
 abbrev pub invariant-loop-constraints : goal.invariant-loop-constraints
 invariant-loop-constraints l =
-    (k : ℕ) (other : Vec Constraint Global) → k < l.constraints-index → AllHold l.costs (slice_index_or l.alternatives k other).items → ⊥
+    (k : ℕ) (other : Vec Constraint Global) → k < l.constraints-index
+    → AllHold l.costs (slice_index_or l.alternatives k other).items → ⊥

@@ -12,7 +12,8 @@ loop-place-init c = record { walked = walk-nil Start; sound = tt }
 
 pub returns-in-None-clause-only : goal.returns-in-None-clause-only
 returns-in-None-clause-only c constraint spelled =
-    absurd (spells-stuck c.args.text.now c.loop-place.place c.loop-place.stage (omega arith) c.loop-place.invariant.walked
+    absurd (spells-stuck c.args.text.now c.loop-place.place c.loop-place.stage (omega arith)
+    c.loop-place.invariant.walked
     (sym c.in-None.ensures.next) constraint spelled)
 
 pub returns-in-None-clause-err : goal.returns-in-None-clause-err
@@ -37,17 +38,20 @@ pub returns-clause-ok : goal.returns-clause-ok
 returns-clause-ok c =
     rw c.ok_or.ensures.value
     (ok-end c.args.text.now c.loop-place.stage
-    (walked-all c.args.text.now c.loop-place.place c.loop-place.stage (omega arith) c.loop-place.invariant.walked) c.finish.result _ c.finish.ensures)
+    (walked-all c.args.text.now c.loop-place.place c.loop-place.stage (omega arith) c.loop-place.invariant.walked)
+    c.finish.result _ c.finish.ensures)
 
 pub returns-clause-only : goal.returns-clause-only
 returns-clause-only c constraint spelled =
     c.ok_or.ensures.value
     ∙ only-end c.args.text.now c.loop-place.stage
-    (walked-all c.args.text.now c.loop-place.place c.loop-place.stage (omega arith) c.loop-place.invariant.walked) c.finish.result _ c.finish.ensures
+    (walked-all c.args.text.now c.loop-place.place c.loop-place.stage (omega arith) c.loop-place.invariant.walked)
+    c.finish.result _ c.finish.ensures
     constraint spelled
 
 pub returns-clause-err : goal.returns-clause-err
 returns-clause-err c =
     rw c.ok_or.ensures.value
     (err-end c.args.text.now c.loop-place.stage
-    (walked-all c.args.text.now c.loop-place.place c.loop-place.stage (omega arith) c.loop-place.invariant.walked) c.finish.result)
+    (walked-all c.args.text.now c.loop-place.place c.loop-place.stage (omega arith) c.loop-place.invariant.walked)
+    c.finish.result)

@@ -17,10 +17,12 @@ loop-row-init g c =
     let walk : c.into_iter-row-iterator.result ≡ rows_in rows (span.CostsFrom net metric source) =
     c.into_iter-row-iterator.ensures.into_iter_gives
     ∙ (c.rows_in-row-items.ensures
-    ∙ (λ i. rows_in rows (span.CostsFrom (c.in_ok-clone.ensures.cases i) (c.in_ok-clone-2.ensures.cases i) (c.in_ok-clone-3.ensures.cases i)))) in
+    ∙ (λ i. rows_in rows (span.CostsFrom (c.in_ok-clone.ensures.cases i) (c.in_ok-clone-2.ensures.cases i)
+    (c.in_ok-clone-3.ensures.cases i)))) in
     record {
       before = refl;
-      tokens = ap (λ left. c.args.out.now.tokens ++ members_tokens (members_outline (listed (filter_map cost_given left)))) walk;
+      tokens = ap (λ left. c.args.out.now.tokens
+          ++ members_tokens (members_outline (listed (filter_map cost_given left)))) walk;
     }
 
 pub returns : goal.returns
@@ -31,6 +33,7 @@ returns g c =
     record {
       tokens =
           rw none at all.tokens
-          ∙ ap (λ ms. c.args.out.now.tokens ++ members_tokens (members_outline ms)) (sym (members_listed c.args.net.now c.args.metric.now rows c.args.source.now c.requires));
+          ∙ ap (λ ms. c.args.out.now.tokens ++ members_tokens (members_outline ms))
+          (sym (members_listed c.args.net.now c.args.metric.now rows c.args.source.now c.requires));
       before = all.before;
     }

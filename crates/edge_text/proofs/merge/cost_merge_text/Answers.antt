@@ -9,4 +9,9 @@ pub returns : goal.returns
 returns g c =
     let face = cost_face c.args.net.now c.args.metric.now (g.R.RowStore.rows c.args.rows.now) in
     let added = c.in_ok-write_patch.ensures in
-    grind (arith, added.tokens, added.before, print-outline (merge_form cost_shape face (places_of c.args.net.now c.args.metric.now c.args.keys.now)))
+    grind (
+      arith,
+      added.tokens,
+      added.before,
+      print-outline (merge_form cost_shape face (places_of c.args.net.now c.args.metric.now c.args.keys.now)),
+    )

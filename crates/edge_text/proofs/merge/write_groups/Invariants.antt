@@ -13,7 +13,8 @@ abbrev pub invariant-loop-key : goal.invariant-loop-key
 invariant-loop-key g l =
     let rows = g.R.RowStore.rows l.rows in
     let left : Begun → List Key → List Token =
-    λ begun keys. tokens_left (stands (cost_face l.net l.metric rows)) (cost_of rows l.net l.metric) begun (pairs_of l.net l.metric keys) in
+    λ begun keys. tokens_left (stands (cost_face l.net l.metric rows)) (cost_of rows l.net l.metric)
+    begun (pairs_of l.net l.metric keys) in
     record {
       before : l.out.before ≡ l.initial.out.before;
       tokens : l.out.tokens ++ left l.begun (drop l.key-index l.keys) ≡ l.initial.out.tokens ++ left None l.keys;

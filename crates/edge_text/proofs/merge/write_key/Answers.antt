@@ -21,7 +21,8 @@ turn_to-requires g c =
     let same : same_name net c.in-Cost.of ≡ true = search rules in
     let same' : same_name metric c.in-Cost.kind ≡ true = search rules in
     let cost : c.number_at-cost.result ≡ cost_of rows net metric src dst =
-    search rules ∙ cost_is net metric c.in-Cost.of c.in-Cost.kind src dst rows c.args.key.now (search rules) same same' in
+    search rules ∙ cost_is net metric c.in-Cost.of c.in-Cost.kind src dst rows c.args.key.now
+    (search rules) same same' in
     λ some. cost_stands net metric src dst rows c.requires (ap is_some (sym cost) ∙ some)
 
 pub returns-in_ok-stands-in-Cost-clause-tokens : goal.returns-in_ok-stands-in-Cost-clause-tokens
@@ -36,14 +37,19 @@ returns-in_ok-stands-in-Cost-clause-tokens g c =
     let same : same_name net c.in-Cost.of ≡ true = search rules in
     let same' : same_name metric c.in-Cost.kind ≡ true = search rules in
     let cost : c.number_at-cost.result ≡ cost_of rows net metric src dst =
-    search rules ∙ cost_is net metric c.in-Cost.of c.in-Cost.kind src dst rows c.args.key.now (search rules) same same' in
+    search rules ∙ cost_is net metric c.in-Cost.of c.in-Cost.kind src dst rows c.args.key.now
+    (search rules) same same' in
     let told : c.in_ok-stands-in-Cost.stands ≡ standing st begun src = c.in_ok-stands-in-Cost.ensures.stands in
     on_ok_weaker c.write_change.result
     (λ changed.
-    subst (λ (o : Option Pair). AddsTokens (pair_tokens st (cost_of rows net metric) begun o) c.args.out.now c.write_change.new.out)
+    subst (λ (o : Option Pair). AddsTokens (pair_tokens st (cost_of rows net metric) begun o) c.args.out.now
+    c.write_change.new.out)
     (sym (pair_is net metric c.in-Cost.of c.in-Cost.kind src dst c.args.key.now (search rules) same same'))
-    (both_added (turn_tokens st begun src) (change_tokens (standing st begun src) dst (cost_of rows net metric src dst)) c.args.out.now c.turn_to.new.out c.write_change.new.out
+    (both_added (turn_tokens st begun src) (change_tokens (standing st begun src) dst (cost_of rows net metric src dst))
+    c.args.out.now c.turn_to.new.out c.write_change.new.out
     c.in_ok-stands-in-Cost.ensures.tokens
-    (subst (λ (n : Option ℕ). AddsTokens (change_tokens (standing st begun src) dst n) c.turn_to.new.out c.write_change.new.out) cost
-    (subst (λ (s : Bool). AddsTokens (change_tokens s dst c.number_at-cost.result) c.turn_to.new.out c.write_change.new.out) told changed))))
+    (subst (λ (n : Option ℕ). AddsTokens (change_tokens (standing st begun src) dst n) c.turn_to.new.out
+    c.write_change.new.out) cost
+    (subst (λ (s : Bool). AddsTokens (change_tokens s dst c.number_at-cost.result) c.turn_to.new.out
+    c.write_change.new.out) told changed))))
     c.write_change.ensures

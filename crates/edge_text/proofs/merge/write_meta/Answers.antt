@@ -19,6 +19,8 @@ pub returns : goal.returns
 returns g c =
     on_ok_weaker c.end_object.result
     (λ closed.
-    meta_added c.args.net.now c.args.metric.now (g.R.RowStore.rows c.args.rows.now) c.args.keys.now c.args.out.now c.key.new.self c.begin_object.new.self
-    c.write_dependent_tags.new.out c.end_object.new.self (search rules) (search rules) (search rules) (search rules) (search rules) c.in_ok-write_dependent_tags.ensures closed (search rules))
+    meta_added c.args.net.now c.args.metric.now (g.R.RowStore.rows c.args.rows.now) c.args.keys.now c.args.out.now
+    c.key.new.self c.begin_object.new.self
+    c.write_dependent_tags.new.out c.end_object.new.self (search rules) (search rules) (search rules) (search rules)
+    (search rules) c.in_ok-write_dependent_tags.ensures closed (search rules))
     c.end_object.ensures.ok

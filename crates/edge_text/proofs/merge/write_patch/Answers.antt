@@ -14,6 +14,7 @@ returns g c =
     on_ok_weaker c.end_object.result
     (λ closed.
     subst (λ (d : Data). AddsValue d c.args.out.now c.end_object.new.self) (sym (form_is cost_shape face places))
-    (patch_written _ _ c.args.out.now c.begin_object.new.self c.write_section.new.out c.write_meta.new.out c.end_object.new.self (search rules) (search rules)
+    (patch_written _ _ c.args.out.now c.begin_object.new.self c.write_section.new.out c.write_meta.new.out
+    c.end_object.new.self (search rules) (search rules)
     c.in_ok-write_section.ensures c.in_ok-write_meta.ensures closed (search rules)))
     c.end_object.ensures.ok

@@ -16,13 +16,16 @@ returns-then-not-has_pair g c =
     let metric = c.args.metric.now in
     let face = cost_face net metric (g.R.RowStore.rows c.args.rows.now) in
     subst (λ (section : Option Data). AddsTokens (part_tokens (codes "cost-map") section) c.args.out.now c.args.out.now)
-    (sym (no_section net metric c.args.keys.now (group_change face (places_of net metric c.args.keys.now)) (search rules)))
+    (sym (no_section net metric c.args.keys.now (group_change face (places_of net metric c.args.keys.now))
+    (search rules)))
     (nothing_added c.args.out.now)
 
 pub returns : goal.returns
 returns g c =
     on_ok_weaker c.end_object.result
     (λ closed.
-    section_added c.args.net.now c.args.metric.now (g.R.RowStore.rows c.args.rows.now) c.args.keys.now c.args.out.now c.key.new.self c.begin_object.new.self c.write_groups.new.out
-    c.end_object.new.self c.requires.good c.requires.rising (search rules) (search rules) (search rules) (search rules) (search rules) c.in_ok-write_groups.ensures closed (search rules))
+    section_added c.args.net.now c.args.metric.now (g.R.RowStore.rows c.args.rows.now) c.args.keys.now c.args.out.now
+    c.key.new.self c.begin_object.new.self c.write_groups.new.out
+    c.end_object.new.self c.requires.good c.requires.rising (search rules) (search rules) (search rules) (search rules)
+    (search rules) c.in_ok-write_groups.ensures closed (search rules))
     c.end_object.ensures.ok

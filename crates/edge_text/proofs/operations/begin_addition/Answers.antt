@@ -7,6 +7,7 @@ pub returns : goal.returns
 returns c =
     on_ok_weaker c.key.result
     (λ keyed.
-    addition_begun c.args.path.now c.args.out.now c.begin_object.new.self c.write_text.new.out c.write_text-2.new.out c.key.new.self (search rules) (search rules)
+    addition_begun c.args.path.now c.args.out.now c.begin_object.new.self c.write_text.new.out c.write_text-2.new.out
+    c.key.new.self (search rules) (search rules)
     c.in_ok-write_text.ensures c.in_ok-write_text-2.ensures keyed (search rules))
     c.key.ensures.ok

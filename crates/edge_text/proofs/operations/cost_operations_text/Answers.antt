@@ -13,4 +13,9 @@ returns g c =
     let before = cost_face net metric (g.R.RowStore.rows c.args.before.now) in
     let after = cost_face net metric (g.R.RowStore.rows c.args.after.now) in
     let added = c.in_ok-write_patch.ensures in
-    grind (arith, added.tokens, added.before, print-outline (operations_data (operation_form cost_shape before after (places_of net metric c.args.keys.now))))
+    grind (
+      arith,
+      added.tokens,
+      added.before,
+      print-outline (operations_data (operation_form cost_shape before after (places_of net metric c.args.keys.now))),
+    )

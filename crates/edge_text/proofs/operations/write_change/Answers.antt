@@ -19,13 +19,16 @@ returns-in-Some c =
     let there : new ≡ Some c.in-Some.cost = search rules in
     let printed : c.as_str.result.now ≡ pointer_text path = search rules in
     let begun : AddsTokens (addition_tokens (pointer_text path)) c.args.out.now c.begin_addition.new.out =
-    subst (λ (text : List ℕ). AddsTokens (addition_tokens text) c.args.out.now c.begin_addition.new.out) printed c.in_ok-begin_addition.ensures in
-    let value : AddsValue (number (unsigned c.in-Some.cost)) c.begin_addition.new.out c.u64.new.self = record { tokens = search rules; before = search rules } in
+    subst (λ (text : List ℕ). AddsTokens (addition_tokens text) c.args.out.now c.begin_addition.new.out) printed
+    c.in_ok-begin_addition.ensures in
+    let value : AddsValue (number (unsigned c.in-Some.cost)) c.begin_addition.new.out c.u64.new.self =
+    record { tokens = search rules; before = search rules } in
     on_ok_weaker c.end_object.result
     (λ closed.
     subst (λ (os : List Operation). AddsTokens (tokens_of os) c.args.out.now c.end_object.new.self)
     (sym (cost_added (codes "cost-map") c.args.source.now c.args.destination.now old new c.in-Some.cost there))
-    (addition_written path (number (unsigned c.in-Some.cost)) c.args.out.now c.begin_addition.new.out c.u64.new.self c.end_object.new.self begun value closed (search rules)))
+    (addition_written path (number (unsigned c.in-Some.cost)) c.args.out.now c.begin_addition.new.out c.u64.new.self
+    c.end_object.new.self begun value closed (search rules)))
     c.end_object.ensures.ok
 
 pub returns-then-is_some : goal.returns-then-is_some
@@ -41,5 +44,6 @@ returns-then-is_some c =
     subst (λ (os : List Operation). AddsTokens (tokens_of os) c.args.out.now c.write_removal.new.out)
     (sym (cost_removed (codes "cost-map") c.args.source.now c.args.destination.now old new gone was))
     (subst (λ (ts : List Token). AddsTokens ts c.args.out.now c.write_removal.new.out) (sym (removed_told path))
-    (subst (λ (text : List ℕ). AddsTokens (removal_tokens text) c.args.out.now c.write_removal.new.out) printed removal)))
+    (subst (λ (text : List ℕ). AddsTokens (removal_tokens text) c.args.out.now c.write_removal.new.out)
+    printed removal)))
     c.write_removal.ensures

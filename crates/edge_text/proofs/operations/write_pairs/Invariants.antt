@@ -15,7 +15,9 @@ invariant-loop-key g l =
     let metric = l.maps.metric.now in
     let before = cost_face net metric (g.R.RowStore.rows l.maps.before.now) in
     let after = cost_face net metric (g.R.RowStore.rows l.maps.after.now) in
-    let left : Turned → List Key → List Token = λ turned keys. tokens_of (map (under (codes "cost-map")) (on_pairs before after turned (pairs_of net metric keys))) in
+    let left : Turned → List Key → List Token =
+    λ turned keys. tokens_of (map (under (codes "cost-map"))
+    (on_pairs before after turned (pairs_of net metric keys))) in
     record {
       before : l.out.before ≡ l.initial.out.before;
       tokens : l.out.tokens ++ left l.turned (drop l.key-index l.keys) ≡ l.initial.out.tokens ++ left None l.keys;

@@ -12,6 +12,8 @@ returns g c =
     let after = cost_face net metric (g.R.RowStore.rows c.args.maps.now.after.now) in
     on_ok_weaker c.end_array.result
     (λ closed.
-    patch_written net metric before after c.args.keys.now c.args.out.now c.begin_array.new.self c.write_version.new.out c.write_pairs.new.out c.end_array.new.self
-    c.requires.rising (search rules) (search rules) c.in_ok-write_version.ensures c.in_ok-write_pairs.ensures closed (search rules))
+    patch_written net metric before after c.args.keys.now c.args.out.now c.begin_array.new.self c.write_version.new.out
+    c.write_pairs.new.out c.end_array.new.self
+    c.requires.rising (search rules) (search rules) c.in_ok-write_version.ensures c.in_ok-write_pairs.ensures
+    closed (search rules))
     c.end_array.ensures.ok

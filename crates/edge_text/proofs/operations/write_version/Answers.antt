@@ -13,13 +13,17 @@ returns-then-not-has_version g c =
     let net = c.args.maps.now.net.now in
     let metric = c.args.maps.now.metric.now in
     let after = cost_face net metric (g.R.RowStore.rows c.args.maps.now.after.now) in
-    subst (λ (os : List Operation). AddsTokens (tokens_of os) c.args.out.now c.args.out.now) (sym (no_version net metric after c.args.keys.now (search rules))) (nothing_added c.args.out.now)
+    subst (λ (os : List Operation). AddsTokens (tokens_of os) c.args.out.now c.args.out.now)
+    (sym (no_version net metric after c.args.keys.now (search rules))) (nothing_added c.args.out.now)
 
 pub returns : goal.returns
 returns g c =
     on_ok_weaker c.end_object.result
     (λ closed.
-    version_written c.args.maps.now.net.now c.args.maps.now.metric.now (g.R.RowStore.rows c.args.maps.now.after.now) c.args.keys.now c.args.out.now c.begin_object.new.self
-    c.write_text.new.out c.write_text-2.new.out c.key.new.self c.write_tags.new.out c.end_object.new.self (search rules) (search rules) (search rules)
-    c.in_ok-write_text.ensures c.in_ok-write_text-2.ensures (search rules) (search rules) c.in_ok-write_tags.ensures closed (search rules))
+    version_written c.args.maps.now.net.now c.args.maps.now.metric.now (g.R.RowStore.rows c.args.maps.now.after.now)
+    c.args.keys.now c.args.out.now c.begin_object.new.self
+    c.write_text.new.out c.write_text-2.new.out c.key.new.self c.write_tags.new.out c.end_object.new.self (search rules)
+    (search rules) (search rules)
+    c.in_ok-write_text.ensures c.in_ok-write_text-2.ensures (search rules) (search rules) c.in_ok-write_tags.ensures
+    closed (search rules))
     c.end_object.ensures.ok

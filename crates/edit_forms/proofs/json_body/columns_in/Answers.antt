@@ -2,7 +2,8 @@
 use Rattle.std.proofs.Common.{inl, inr, sym, arith}
 use Rattle.edit_forms.proofs.ItemLemmas.{not_a_text, other_length, six_columns}
 use Rattle.edit_forms.proofs.json_body.columns_in.Goals as goal
-use Rattle.edit_forms.proofs.json_body.columns_in.Goals.{then-texts-lt2-via-then-texts-lt2, then-texts-lt2-via-else-texts-lt2+then-texts-gt6}
+use Rattle.edit_forms.proofs.json_body.columns_in.Goals.{then-texts-lt2-via-then-texts-lt2}
+use Rattle.edit_forms.proofs.json_body.columns_in.Goals.{then-texts-lt2-via-else-texts-lt2+then-texts-gt6}
 
 pub returns-then-texts-lt2-clause-other : goal.returns-then-texts-lt2-clause-other
 returns-then-texts-lt2-clause-other c =

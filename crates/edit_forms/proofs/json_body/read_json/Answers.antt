@@ -14,19 +14,23 @@ returns-in_err-tree-clause-err c =
 
 pub returns-in_err-edits_of-in-Some-clause-err : goal.returns-in_err-edits_of-in-Some-clause-err
 returns-in_err-edits_of-in-Some-clause-err c =
-    let p = err_from_is_err_and c.from_residual-in_err-edits_of-in-Some.result c.from_residual-in_err-edits_of-in-Some.ensures.1 in
+    let p = err_from_is_err_and c.from_residual-in_err-edits_of-in-Some.result
+    c.from_residual-in_err-edits_of-in-Some.ensures.1 in
     rw (p.1, p.2) (λ other.
-    json_body c.args.body.now _ c.in-Some.items.now _ c.in_ok-tree.ensures.ok c.in-Some.ensures (body_fault _ _ (c.in_err-edits_of-in-Some.ensures.err other)))
+    json_body c.args.body.now _ c.in-Some.items.now _ c.in_ok-tree.ensures.ok c.in-Some.ensures
+    (body_fault _ _ (c.in_err-edits_of-in-Some.ensures.err other)))
 
 pub returns-in-Some-clause-ok : goal.returns-in-Some-clause-ok
 returns-in-Some-clause-ok c =
     IfOk-weaker c.at_least_one.result _ _ (λ edits e.
-    json_body c.args.body.now _ c.in-Some.items.now _ c.in_ok-tree.ensures.ok c.in-Some.ensures (body_edits _ _ (rw e.1 c.in_ok-edits_of-in-Some.ensures.ok) e.0)) c.at_least_one.ensures.ok
+    json_body c.args.body.now _ c.in-Some.items.now _ c.in_ok-tree.ensures.ok c.in-Some.ensures
+    (body_edits _ _ (rw e.1 c.in_ok-edits_of-in-Some.ensures.ok) e.0)) c.at_least_one.ensures.ok
 
 pub returns-in-Some-clause-err : goal.returns-in-Some-clause-err
 returns-in-Some-clause-err c =
     IfErr-weaker c.at_least_one.result _ _ (λ fault e other.
-    rw e.0 (json_body c.args.body.now _ c.in-Some.items.now _ c.in_ok-tree.ensures.ok c.in-Some.ensures (body_empty _ (rw e.1 at c.in_ok-edits_of-in-Some.ensures.ok)))) c.at_least_one.ensures.err
+    rw e.0 (json_body c.args.body.now _ c.in-Some.items.now _ c.in_ok-tree.ensures.ok c.in-Some.ensures
+    (body_empty _ (rw e.1 at c.in_ok-edits_of-in-Some.ensures.ok)))) c.at_least_one.ensures.err
 
 pub returns-clause-err : goal.returns-clause-err
 returns-clause-err c other = no_list c.args.body.now _ c.in_ok-tree.ensures.ok c.in-None.ensures

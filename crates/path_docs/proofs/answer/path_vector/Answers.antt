@@ -9,6 +9,8 @@ returns g c =
     let net = c.args.net.now in
     let ask = c.args.ask.now in
     record {
-      costs = c.in_ok-costs.ensures ∙ costs_from rows net ask c.args.n _ c.requires (c.deref.ensures.value ∙ c.in_ok-sources.ensures);
-      properties = c.in_ok-properties.ensures ∙ properties_from rows net ask c.args.n _ c.requires (c.deref-2.ensures.value ∙ c.in_ok-sources.ensures);
+      costs = c.in_ok-costs.ensures ∙ costs_from rows net ask c.args.n _ c.requires (c.deref.ensures.value
+          ∙ c.in_ok-sources.ensures);
+      properties = c.in_ok-properties.ensures
+          ∙ properties_from rows net ask c.args.n _ c.requires (c.deref-2.ensures.value ∙ c.in_ok-sources.ensures);
     }

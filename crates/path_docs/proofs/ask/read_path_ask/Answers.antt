@@ -20,7 +20,8 @@ returns-clause-ok c =
 pub returns-in_err-only_bandwidth-clause-err : goal.returns-in_err-only_bandwidth-clause-err
 unfolding path_ask
 returns-in_err-only_bandwidth-clause-err c =
-    let p = err_from_is_err_and c.from_residual-in_err-only_bandwidth.result c.from_residual-in_err-only_bandwidth.ensures.1 in
+    let p = err_from_is_err_and c.from_residual-in_err-only_bandwidth.result
+    c.from_residual-in_err-only_bandwidth.ensures.1 in
     rw (p.1, p.2)
     (λ not_memory.
     rw (

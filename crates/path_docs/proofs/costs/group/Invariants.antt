@@ -7,4 +7,5 @@ use Rattle.path_docs.proofs.costs.group.Given as goal
 
 abbrev pub invariant-loop-pair : goal.invariant-loop-pair
 invariant-loop-pair l =
-    with_members (members_data l.group) (map pair_member (drop l.pair-index l.pairs)) ≡ members_of (map pair_member l.pairs)
+    with_members (members_data l.group) (map pair_member (drop l.pair-index l.pairs))
+    ≡ members_of (map pair_member l.pairs)

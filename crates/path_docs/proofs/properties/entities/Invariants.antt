@@ -9,5 +9,6 @@ use Rattle.path_docs.proofs.properties.entities.Given as goal
 
 abbrev pub invariant-loop-ane : goal.invariant-loop-ane
 invariant-loop-ane g l =
-    let entity : Name → Name × Data = λ ane. (ane_entity ane, ane_properties (g.R.RowStore.rows l.rows) l.net l.bandwidth ane) in
+    let entity : Name → Name × Data =
+    λ ane. (ane_entity ane, ane_properties (g.R.RowStore.rows l.rows) l.net l.bandwidth ane) in
     with_members (members_data l.entities) (map entity (drop l.ane-index l.anes)) ≡ members_of (map entity l.anes)

@@ -13,5 +13,7 @@ returns g c =
     let rows = g.R.RowStore.rows c.args.rows.now in
     let all : c.in_ok-properties.properties.items ≡ props_shown rows net text = c.in_ok-properties.ensures.all in
     IfOk-weaker c.object_of.result _ _
-    (λ tree is. is ∙ (ap props_object (c.deref.ensures.value ∙ all) ∙ group_shown rows net text (subst (λ props. IsStrictlySortedBy name_cmp (names_of props)) all c.in_ok-properties.ensures.rise)))
+    (λ tree is. is ∙ (ap props_object (c.deref.ensures.value ∙ all)
+    ∙ group_shown rows net text (subst (λ props. IsStrictlySortedBy name_cmp (names_of props)) all
+    c.in_ok-properties.ensures.rise)))
     c.object_of.ensures

@@ -5,4 +5,5 @@ use Rattle.prop_docs.proofs.properties.properties_owned.Given as goal
 
 -- the properties that are there, and those of the rows that the walk has left, are all
 abbrev pub invariant-loop-row : goal.invariant-loop-row
-invariant-loop-row g l = l.properties.items ++ filter_map prop_in l.row-iterator ≡ props_of (g.R.RowStore.rows l.rows) l.net l.fn.entity
+invariant-loop-row g l = l.properties.items ++ filter_map prop_in l.row-iterator
+    ≡ props_of (g.R.RowStore.rows l.rows) l.net l.fn.entity

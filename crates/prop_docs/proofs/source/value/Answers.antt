@@ -9,7 +9,8 @@ returns-in-Some g c =
     IfOk-weaker c.value_owned.result _ _
     (λ value is.
     is
-    ∙ member_found (g.R.RowStore.rows c.args.rows.now) c.args.net.now c.args.text.now c.args.name.now c.in-Some.entity c.requires
+    ∙ member_found (g.R.RowStore.rows c.args.rows.now) c.args.net.now c.args.text.now c.args.name.now
+    c.in-Some.entity c.requires
     (λ other fits. c.in_ok-entity.ensures other fits ∙ ap (λ found. is_found found other) c.in-Some.is))
     c.value_owned.ensures
 
@@ -19,4 +20,5 @@ returns-in-None g c =
     let text = c.args.text.now in
     let rows = g.R.RowStore.rows c.args.rows.now in
     none_member rows net text c.args.name.now
-    (none_stands rows net text c.requires (λ other fits. c.in_ok-entity.ensures other fits ∙ ap (λ found. is_found found other) c.in-None.is))
+    (none_stands rows net text c.requires (λ other fits. c.in_ok-entity.ensures other fits
+    ∙ ap (λ found. is_found found other) c.in-None.is))

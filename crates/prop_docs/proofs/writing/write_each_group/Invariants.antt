@@ -12,5 +12,6 @@ invariant-loop-text g l =
     record {
       before : l.out.before ≡ l.initial.out.before;
       tokens : l.out.tokens ++ members_tokens (members_outline (groups_in_order rows l.net l.text-iterator))
-          ≡ l.initial.out.tokens ++ members_tokens (members_outline (groups_in_order rows l.net (entities_of rows l.net)));
+          ≡ l.initial.out.tokens ++ members_tokens
+          (members_outline (groups_in_order rows l.net (entities_of rows l.net)));
     }

@@ -20,8 +20,11 @@ returns g c =
     let rows = g.R.RowStore.rows c.args.rows.now in
     let all : c.in_ok-properties.properties.items ≡ props_shown rows net text = c.in_ok-properties.ensures.all in
     let whole : props_object c.deref.result.now ≡ group_object (prop_face net rows) text =
-    ap props_object (c.deref.ensures.value ∙ all) ∙ group_shown rows net text (subst (λ props. IsStrictlySortedBy name_cmp (names_of props)) all c.in_ok-properties.ensures.rise) in
+    ap props_object (c.deref.ensures.value ∙ all)
+    ∙ group_shown rows net text (subst (λ props. IsStrictlySortedBy name_cmp (names_of props)) all
+    c.in_ok-properties.ensures.rise) in
     on_ok_weaker c.write_properties.result
-    (λ added. named_value text (group_object (prop_face net rows) text) c.args.out.now c.key.new.self c.write_properties.new.out (search rules) (search rules)
+    (λ added. named_value text (group_object (prop_face net rows) text) c.args.out.now c.key.new.self
+    c.write_properties.new.out (search rules) (search rules)
     (subst (λ d. AddsValue d c.key.new.self c.write_properties.new.out) whole added))
     c.write_properties.ensures

@@ -10,6 +10,8 @@ pub returns : goal.returns
 unfolding with_member
 returns g c =
     on_ok_weaker c.end_object.result
-    (λ closed. object_of_one (codes "dependent-vtags") (dependent_tags (g.R.RowStore.rows c.args.rows.now) c.args.net.now) c.args.out.now c.begin_object.new.self
-    c.write_dependent_tags.new.out c.end_object.new.self (search rules) (search rules) c.in_ok-write_dependent_tags.ensures closed (search rules))
+    (λ closed. object_of_one (codes "dependent-vtags")
+    (dependent_tags (g.R.RowStore.rows c.args.rows.now) c.args.net.now) c.args.out.now c.begin_object.new.self
+    c.write_dependent_tags.new.out c.end_object.new.self (search rules) (search rules)
+    c.in_ok-write_dependent_tags.ensures closed (search rules))
     c.end_object.ensures.ok

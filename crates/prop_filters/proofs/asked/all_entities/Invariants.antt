@@ -7,4 +7,5 @@ use Rattle.prop_filters.proofs.asked.all_entities.Given as goal
 -- the entities so far, with those of the rows that the walk has left, give what all give
 abbrev pub invariant-loop-row : goal.invariant-loop-row
 invariant-loop-row g l =
-    GiveTheSame (l.entities.items ++ filter_map (entity_given l.net) l.row-iterator) (asked_entities (g.R.RowStore.rows l.rows) l.net [])
+    GiveTheSame (l.entities.items ++ filter_map (entity_given l.net) l.row-iterator)
+    (asked_entities (g.R.RowStore.rows l.rows) l.net [])

@@ -8,4 +8,5 @@ use Rattle.prop_filters.proofs.asked.names_given.Given as goal
 -- the names so far, with those of the rows that the walk has left, are all
 abbrev pub invariant-loop-row : goal.invariant-loop-row
 invariant-loop-row g l =
-    with_names l.names.keys (filter_map (name_given l.net) l.row-iterator) ≡ set_of (filter_map (name_given l.net) (g.R.RowStore.rows l.rows))
+    with_names l.names.keys (filter_map (name_given l.net) l.row-iterator)
+    ≡ set_of (filter_map (name_given l.net) (g.R.RowStore.rows l.rows))

@@ -9,6 +9,7 @@ returns g c =
     IfOk-weaker c.document.result _ _
     (λ tree is.
     is
-    ∙ map_shown (g.R.RowStore.rows c.args.rows.now) c.args.net.now c.args.ask.now (data_of c.in_ok-meta.meta) (data_of c.in_ok-groups.groups)
+    ∙ map_shown (g.R.RowStore.rows c.args.rows.now) c.args.net.now c.args.ask.now (data_of c.in_ok-meta.meta)
+    (data_of c.in_ok-groups.groups)
     c.in_ok-meta.ensures c.in_ok-groups.ensures)
     c.document.ensures

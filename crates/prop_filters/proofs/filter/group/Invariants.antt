@@ -9,4 +9,5 @@ use Rattle.prop_filters.proofs.filter.group.Given as goal
 abbrev pub invariant-loop-name : goal.invariant-loop-name
 invariant-loop-name g l =
     let member = member_of (g.R.RowStore.rows l.rows) l.net l.entity in
-    outcome l.any (members_data l.group) (filter_map member (drop l.name-index l.names)) ≡ object_if_any (filter_map member l.names)
+    outcome l.any (members_data l.group) (filter_map member (drop l.name-index l.names))
+    ≡ object_if_any (filter_map member l.names)

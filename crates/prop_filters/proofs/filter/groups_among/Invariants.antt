@@ -10,4 +10,5 @@ use Rattle.prop_filters.proofs.filter.groups_among.Given as goal
 abbrev pub invariant-loop-entity : goal.invariant-loop-entity
 invariant-loop-entity g l =
     let group = group_of (g.R.RowStore.rows l.rows) l.net l.names in
-    with_members (members_data l.groups) (filter_map group (drop l.entity-index l.entities)) ≡ members_of (filter_map group l.entities)
+    with_members (members_data l.groups) (filter_map group (drop l.entity-index l.entities))
+    ≡ members_of (filter_map group l.entities)

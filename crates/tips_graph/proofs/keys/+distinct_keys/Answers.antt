@@ -12,5 +12,6 @@ returns t c =
     let older : c.deref.result.now ≡ key_set front = c.deref.ensures.value ∙ c.in_ok-older.ensures in
     let newer : c.deref-2.result.now ≡ key_set back = c.deref-2.ensures.value ∙ c.in_ok-newer.ensures in
     IfOk-weaker c.merged.result _ _
-    (λ distinct made. made ∙ parts_set c.args.keys.now front back c.deref.result.now c.deref-2.result.now _ c.split_at.ensures.front c.split_at.ensures.back older newer)
+    (λ distinct made. made ∙ parts_set c.args.keys.now front back c.deref.result.now c.deref-2.result.now _
+    c.split_at.ensures.front c.split_at.ensures.back older newer)
     (c.merged.ensures (part_set front c.deref.result.now older) (part_set back c.deref-2.result.now newer))

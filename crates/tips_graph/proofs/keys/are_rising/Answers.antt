@@ -18,9 +18,11 @@ loop-key-preserved c =
     let l = c.loop-key in
     let key = c.key-item.result in
     let before : is_lt (key_cmp l.last.now key) ≡ true = search rules in
-    λ o. l.invariant (rising_step l.last.now key c.in-Some.rest.now l.key-index c.loop-key-test.true c.key-item.is before o)
+    λ o. l.invariant (rising_step l.last.now key c.in-Some.rest.now l.key-index c.loop-key-test.true
+    c.key-item.is before o)
 
 pub returns-clause-set : goal.returns-clause-set
 returns-clause-set c =
     λ _. key_set-sorted c.args.keys.now
-    (c.loop-key.invariant (rising_ended c.loop-key.last.now c.in-Some.rest.now c.loop-key.key-index (search (rules, c.loop-key-test.false))))
+    (c.loop-key.invariant (rising_ended c.loop-key.last.now c.in-Some.rest.now c.loop-key.key-index
+    (search (rules, c.loop-key-test.false))))

@@ -11,9 +11,16 @@ loop-i-preserved-in-Less c = record {
   newer_within = c.loop-i.invariant.newer_within;
   made =
       subst (λ (keys : List Key). IsMergedTo c.args.older.now c.args.newer.now keys (c.loop-i.i + 1) c.loop-i.j)
-      (sym (c.in_ok-push-in-Less.ensures.items ∙ ap (λ (key : Key). c.loop-i.keys.items ++ key ∷ []) c.in_ok-copy_of_key-in-Less.ensures))
-      (merged_older c.args.older.now c.args.newer.now c.loop-i.keys.items c.loop-i.i c.loop-i.j c.index-older-i.result c.index-newer-j.result
-      (record { older_within = c.loop-i-test.true; newer_within = c.if-j-newer.true; older_is = c.index-older-i.is; newer_is = c.index-newer-j.is })
+      (sym (c.in_ok-push-in-Less.ensures.items ∙ ap (λ (key : Key). c.loop-i.keys.items ++ key ∷ [])
+      c.in_ok-copy_of_key-in-Less.ensures))
+      (merged_older c.args.older.now c.args.newer.now c.loop-i.keys.items c.loop-i.i c.loop-i.j c.index-older-i.result
+      c.index-newer-j.result
+      (record {
+        older_within = c.loop-i-test.true;
+        newer_within = c.if-j-newer.true;
+        older_is = c.index-older-i.is;
+        newer_is = c.index-newer-j.is;
+      })
       (sym c.order.ensures ∙ c.in-Less.is) c.loop-i.invariant.made);
 }
 
@@ -23,9 +30,16 @@ loop-i-preserved-in-Equal c = record {
   newer_within = omega (arith, c.if-j-newer.true);
   made =
       subst (λ (keys : List Key). IsMergedTo c.args.older.now c.args.newer.now keys (c.loop-i.i + 1) (c.loop-i.j + 1))
-      (sym (c.in_ok-push-in-Equal.ensures.items ∙ ap (λ (key : Key). c.loop-i.keys.items ++ key ∷ []) c.in_ok-copy_of_key-in-Equal.ensures))
-      (merged_both c.args.older.now c.args.newer.now c.loop-i.keys.items c.loop-i.i c.loop-i.j c.index-older-i.result c.index-newer-j.result
-      (record { older_within = c.loop-i-test.true; newer_within = c.if-j-newer.true; older_is = c.index-older-i.is; newer_is = c.index-newer-j.is })
+      (sym (c.in_ok-push-in-Equal.ensures.items ∙ ap (λ (key : Key). c.loop-i.keys.items ++ key ∷ [])
+      c.in_ok-copy_of_key-in-Equal.ensures))
+      (merged_both c.args.older.now c.args.newer.now c.loop-i.keys.items c.loop-i.i c.loop-i.j c.index-older-i.result
+      c.index-newer-j.result
+      (record {
+        older_within = c.loop-i-test.true;
+        newer_within = c.if-j-newer.true;
+        older_is = c.index-older-i.is;
+        newer_is = c.index-newer-j.is;
+      })
       (sym c.order.ensures ∙ c.in-Equal.is) c.loop-i.invariant.made);
 }
 
@@ -35,9 +49,16 @@ loop-i-preserved c = record {
   newer_within = omega (arith, c.if-j-newer.true);
   made =
       subst (λ (keys : List Key). IsMergedTo c.args.older.now c.args.newer.now keys c.loop-i.i (c.loop-i.j + 1))
-      (sym (c.in_ok-push-in-Greater.ensures.items ∙ ap (λ (key : Key). c.loop-i.keys.items ++ key ∷ []) c.in_ok-copy_of_key-in-Greater.ensures))
-      (merged_newer c.args.older.now c.args.newer.now c.loop-i.keys.items c.loop-i.i c.loop-i.j c.index-older-i.result c.index-newer-j.result
-      (record { older_within = c.loop-i-test.true; newer_within = c.if-j-newer.true; older_is = c.index-older-i.is; newer_is = c.index-newer-j.is })
+      (sym (c.in_ok-push-in-Greater.ensures.items ∙ ap (λ (key : Key). c.loop-i.keys.items ++ key ∷ [])
+      c.in_ok-copy_of_key-in-Greater.ensures))
+      (merged_newer c.args.older.now c.args.newer.now c.loop-i.keys.items c.loop-i.i c.loop-i.j c.index-older-i.result
+      c.index-newer-j.result
+      (record {
+        older_within = c.loop-i-test.true;
+        newer_within = c.if-j-newer.true;
+        older_is = c.index-older-i.is;
+        newer_is = c.index-newer-j.is;
+      })
       (sym c.order.ensures ∙ c.in-Greater.is) c.loop-i.invariant.made);
 }
 
@@ -46,7 +67,12 @@ returns c = λ one two.
     c.in_ok-append_copies-2.ensures
     ∙ ap (λ (more : List Key). c.append_copies.new.keys.items ++ more) (take_rest c.args.newer.now c.loop-i.j)
     ∙ ap (λ (keys : List Key). keys ++ drop c.loop-i.j c.args.newer.now)
-    (c.in_ok-append_copies.ensures ∙ ap (λ (more : List Key). c.loop-i.keys.items ++ more) (take_rest c.args.older.now c.loop-i.i))
+    (c.in_ok-append_copies.ensures ∙ ap (λ (more : List Key). c.loop-i.keys.items ++ more)
+    (take_rest c.args.older.now c.loop-i.i))
     ∙ merged_end c.args.older.now c.args.newer.now c.loop-i.keys.items c.loop-i.i c.loop-i.j
-    (elim c.loop-i-test.branch [ then-loop-i-test+else-j-newer w ↦ inr (omega (arith, w.if-j-newer)) | else-loop-i-test w ↦ inl (omega (arith, w.loop-i-test)) ])
+    (elim c.loop-i-test.branch [
+      | then-loop-i-test+else-j-newer w ↦ inr (omega (arith, w.if-j-newer))
+      | else-loop-i-test
+          w ↦ inl (omega (arith, w.loop-i-test))
+    ])
     c.loop-i.invariant.made one two

@@ -13,11 +13,21 @@ use Rattle.worked_examples.proofs.edges.an_edge_below_the_window_is_gone.Goals a
 
 pub returns-clause-step : goal.returns-clause-step
 unfolding key_cmp resource_cmp with_member escape_byte percent_decode document merge_form set_of
-returns-clause-step c = rw (metro_book-written 2, decimal_digit 3 (omega arith), decimal_three 410 (omega arith) (omega arith)) refl
+returns-clause-step c = rw (
+  metro_book-written 2,
+  decimal_digit 3 (omega arith),
+  decimal_three 410 (omega arith)
+      (omega arith),
+) refl
 
 pub returns-clause-snapshot : goal.returns-clause-snapshot
 unfolding key_cmp resource_cmp with_member escape_byte percent_decode document merge_form set_of
-returns-clause-snapshot c = rw (metro_book-written 2, decimal_digit 3 (omega arith), decimal_three 410 (omega arith) (omega arith)) refl
+returns-clause-snapshot c = rw (
+  metro_book-written 2,
+  decimal_digit 3 (omega arith),
+  decimal_three 410 (omega arith)
+      (omega arith),
+) refl
 
 pub returns-clause-kept_step : goal.returns-clause-kept_step
 unfolding key_cmp resource_cmp with_member escape_byte percent_decode document merge_form set_of

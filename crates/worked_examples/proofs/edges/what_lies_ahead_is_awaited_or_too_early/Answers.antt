@@ -14,12 +14,27 @@ returns-clause-next_step c = rw (metro_book-written 8) refl
 
 pub returns-clause-snapshot : goal.returns-clause-snapshot
 unfolding key_cmp resource_cmp with_member escape_byte percent_decode
-returns-clause-snapshot c = rw (metro_book-written 8, decimal_digit 4 (omega arith), decimal_three 425 (omega arith) (omega arith)) refl
+returns-clause-snapshot c = rw (
+  metro_book-written 8,
+  decimal_digit 4 (omega arith),
+  decimal_three 425 (omega arith)
+      (omega arith),
+) refl
 
 pub returns-clause-step : goal.returns-clause-step
 unfolding key_cmp resource_cmp with_member escape_byte percent_decode
-returns-clause-step c = rw (metro_book-written 8, decimal_digit 4 (omega arith), decimal_three 425 (omega arith) (omega arith)) refl
+returns-clause-step c = rw (
+  metro_book-written 8,
+  decimal_digit 4 (omega arith),
+  decimal_three 425 (omega arith)
+      (omega arith),
+) refl
 
 pub returns-clause-longer : goal.returns-clause-longer
 unfolding key_cmp resource_cmp with_member escape_byte percent_decode
-returns-clause-longer c = rw (metro_book-written 8, decimal_digit 4 (omega arith), decimal_three 425 (omega arith) (omega arith)) refl
+returns-clause-longer c = rw (
+  metro_book-written 8,
+  decimal_digit 4 (omega arith),
+  decimal_three 425 (omega arith)
+      (omega arith),
+) refl

@@ -14,7 +14,8 @@ returns-clause-csv c =
     edits.reads (NetAdd (codes "metro")) (Err (BadColumn 2 3))
     (Ok (NetAdd (codes "metro")), column.reads _ refl (column.reads (codes "metro") refl refl), refl)
     (edits.fails (BadColumn 2 3)
-    (Err 3, column.reads _ refl (column.reads (codes "metro") refl (column.fails (λ pid named_so. cc) refl)), refl) refl)
+    (Err 3, column.reads _ refl (column.reads (codes "metro") refl (column.fails (λ pid named_so. cc) refl)), refl)
+    refl)
     refl
 
 pub returns-clause-nothing : goal.returns-clause-nothing

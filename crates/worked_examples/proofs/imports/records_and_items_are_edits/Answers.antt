@@ -19,7 +19,10 @@ unfolding with_member
 returns-clause-json c =
     edits.reads (NetAdd (codes "metro")) (Ok (PidAdd (codes "metro") (codes "east") ∷ []))
     (Ok (NetAdd (codes "metro")), column.reads _ refl (column.reads (codes "metro") refl refl), refl)
-    (edits.reads (PidAdd (codes "metro") (codes "east")) (Ok [])
-    (Ok (PidAdd (codes "metro") (codes "east")), column.reads _ refl (column.reads (codes "metro") refl (column.reads (codes "east") refl refl)), refl)
+    (edits.reads (PidAdd (codes "metro") (codes "east")) (Ok []) (
+      Ok (PidAdd (codes "metro") (codes "east")),
+      column.reads _ refl (column.reads (codes "metro") refl (column.reads (codes "east") refl refl)),
+      refl,
+    )
     refl refl)
     refl

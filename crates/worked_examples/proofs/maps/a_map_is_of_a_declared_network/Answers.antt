@@ -15,8 +15,19 @@ use Rattle.worked_examples.proofs.maps.a_map_is_of_a_declared_network.Goals as g
 -- the map at the last number
 last_map : net.network_map (rows_of (written_book 8)) (codes "metro")
     ≡ object_of
-    ((codes "meta", object_of ((codes "vtag", object_of ((codes "resource-id", string (codes "metro")) ∷ (codes "tag", string (codes "e1-4")) ∷ [])) ∷ []))
-    ∷ (codes "network-map", object_of ((codes "east", object_of []) ∷ (codes "south", object_of []) ∷ (codes "west", object_of []) ∷ []))
+    ((
+      codes "meta",
+      object_of ((
+        codes "vtag",
+        object_of ((codes "resource-id", string (codes "metro"))
+            ∷ (codes "tag", string (codes "e1-4")) ∷ []),
+      ) ∷ []),
+    )
+    ∷ (
+      codes "network-map",
+      object_of ((codes "east", object_of []) ∷ (codes "south", object_of [])
+          ∷ (codes "west", object_of []) ∷ []),
+    )
     ∷ [])
 unfolding key_cmp resource_cmp document
 last_map = rw (decimal_digit 4 (omega arith)) refl

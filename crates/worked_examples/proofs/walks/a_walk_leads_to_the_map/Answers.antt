@@ -13,5 +13,6 @@ use Rattle.worked_examples.proofs.WrittenBook.{metro_book-written}
 use Rattle.worked_examples.proofs.walks.a_walk_leads_to_the_map.Goals as goal
 
 pub returns : goal.returns
-unfolding key_cmp resource_cmp with_member document merge_patched escape_byte merge_form operation_form operations_applied set_of
+unfolding key_cmp resource_cmp with_member document merge_patched escape_byte merge_form operation_form
+    operations_applied set_of
 returns c = rw (metro_book-written 8, decimal_digit 4 (omega arith)) refl

@@ -18,7 +18,8 @@ whole n m e = grind (arith, nat_tests)
 cut : (n m : ℕ) → n < m → (n == m) ≡ false
 cut n m e = grind (arith, nat_tests)
 
-place_of-text : (of : Side) (path : List ℕ) → IsUtf8 path → option_map (λ route. route.value) (first (router_of of) path) ≡ place_of of path
+place_of-text : (of : Side) (path : List ℕ) → IsUtf8 path
+    → option_map (λ route. route.value) (first (router_of of) path) ≡ place_of of path
 unfolding place_of
 place_of-text of path text = rw (whole _ _ (utf8_valid_len-IsUtf8 path text))
 
@@ -28,11 +29,15 @@ place_of-bytes of path n valid =
     let lt : utf8_valid_len path < length path = omega (arith, utf8_valid_len-IsValidUpTo path n valid, valid.short) in
     rw (cut _ _ lt)
 
-found_at : (of side : Side) (router : RowsOf (RouteOf Place)) (path text : List ℕ) (to : Option Place) → to ≡ option_map (λ route. route.value) (first router text) → router ≡ router_of side → side ≡ of → text ≡ path → IsUtf8 path → to ≡ place_of of path
-found_at of side router path text to found routed same read valid = rw (found, routed, same, read) (place_of-text of path valid)
+found_at : (of side : Side) (router : RowsOf (RouteOf Place)) (path text : List ℕ) (to : Option Place)
+    → to ≡ option_map (λ route. route.value) (first router text) → router ≡ router_of side → side ≡ of → text ≡ path
+    → IsUtf8 path → to ≡ place_of of path
+found_at of side router path text to found routed same read valid =
+    rw (found, routed, same, read) (place_of-text of path valid)
 
 pub returns-in-Ok : goal.returns-in-Ok
-returns-in-Ok c = found_at _ _ _ _ _ _ c.found.ensures c.self.invariant c.self.view_is c.in-Ok.ensures.cases.0 c.in-Ok.ensures.cases.1
+returns-in-Ok c = found_at _ _ _ _ _ _ c.found.ensures c.self.invariant c.self.view_is c.in-Ok.ensures.cases.0
+    c.in-Ok.ensures.cases.1
 
 pub returns-in-Err : goal.returns-in-Err
 returns-in-Err c = place_of-bytes _ _ _ c.in-Err.ensures.cases.1

@@ -49,18 +49,21 @@ returns-clause-safe g c = λ faithful legal safe.
     ∙ (ap (λ (ledger : LedgerData). with_batch ledger.book batch) c.in_ok-keep.ensures.ledger
     ∙ ap (λ (book : Book). with_batch book batch) c.in_ok-reserve.ensures.book))
     (subst IsStorable (sym c.in_ok-batch.ensures.ok) c.in_ok-next_batch.ensures.storable)
-    (subst (λ (b : Accepted). IsLegal (with_batch book b)) (sym c.in_ok-batch.ensures.ok) c.in_ok-next_batch.ensures.legal)
+    (subst (λ (b : Accepted). IsLegal (with_batch book b)) (sym c.in_ok-batch.ensures.ok)
+    c.in_ok-next_batch.ensures.legal)
     (c.in_ok-keep.ensures.settled faithful)
 
 pub returns-in_err-keep-clause-safe : goal.returns-in_err-keep-clause-safe
 returns-in_err-keep-clause-safe g c = λ faithful legal safe.
     let book = c.args.self.now.ledger.book in
     let batch = arc_value c.in_ok-batch.batch in
-    subst (λ (ledger : LedgerData). IsSafe g.K.Keeper c.keep.new.self.keeper ledger.book) (sym c.in_err-keep.ensures.ledger)
+    subst (λ (ledger : LedgerData). IsSafe g.K.Keeper c.keep.new.self.keeper ledger.book)
+    (sym c.in_err-keep.ensures.ledger)
     (safe_unless_added g.K.Keeper c.args.self.now.keeper c.keep.new.self.keeper book legal c.in_err-keep.ensures.clean
     c.in_err-keep.ensures.refused safe _ batch _
     c.in_ok-reserve.ensures.book
     (c.deref-4.ensures.value ∙ (c.in_ok-bytes.ensures ∙ ap batch_bytes c.deref-2.ensures))
     (subst IsStorable (sym c.in_ok-batch.ensures.ok) c.in_ok-next_batch.ensures.storable)
-    (subst (λ (b : Accepted). IsLegal (with_batch book b)) (sym c.in_ok-batch.ensures.ok) c.in_ok-next_batch.ensures.legal)
+    (subst (λ (b : Accepted). IsLegal (with_batch book b)) (sym c.in_ok-batch.ensures.ok)
+    c.in_ok-next_batch.ensures.legal)
     (c.in_err-keep.ensures.left faithful))

@@ -18,7 +18,8 @@ pub returns-clause-kept : goal.returns-clause-kept
 returns-clause-kept g c = λ clean backed.
     let book = c.args.self.now.ledger.book in
     subst (Backs (g.K.Keeper.holds c.rebase.new.self)) (sym c.in_ok-ledger.ensures.book)
-    (backs_trimmed _ _ book c.taken_in-count.result c.number_behind-number.result _ c.front-version.ensures.legal (omega arith)
+    (backs_trimmed _ _ book c.taken_in-count.result c.number_behind-number.result _
+    c.front-version.ensures.legal (omega arith)
     c.taken_in-count.ensures.within c.number_behind-number.ensures.number
     (ap (map vec_items) c.deref.ensures.value ∙ c.in_ok-ledger.ensures.pieces)
     (λ stored held.

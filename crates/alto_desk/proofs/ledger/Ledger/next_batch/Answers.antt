@@ -20,7 +20,8 @@ returns-clause-new g c = rw c.batch_of.ensures.batch c.requires.new
 pub returns-clause-legal : goal.returns-clause-legal
 returns-clause-legal g c =
     rw (c.batch_of.ensures.batch, c.max.ensures, c.last_moment.ensures)
-    (legal_new _ c.args.command c.args.moment _ c.compile.ensures.legal c.requires.edits (sym c.requires.new) c.in_ok-writes.ensures.ok)
+    (legal_new _ c.args.command c.args.moment _ c.compile.ensures.legal c.requires.edits (sym c.requires.new)
+    c.in_ok-writes.ensures.ok)
 
 pub returns-clause-storable : goal.returns-clause-storable
 returns-clause-storable g c =

@@ -16,7 +16,8 @@ use Rattle.alto_desk.proofs.opening.Opening.with.Goals as goal
 pub invariant_of-result : goal.invariant_of-result
 invariant_of-result g c =
     let batch = c.args.batch in
-    let book : Book = book_kept (g.R.RowStore.rows (arc_value c.self.inside.base)) c.self.inside.receipts.items (map arc_value c.self.inside.batches.items) in
+    let book : Book = book_kept (g.R.RowStore.rows (arc_value c.self.inside.base)) c.self.inside.receipts.items
+    (map arc_value c.self.inside.batches.items) in
     let place = c.len-2.result + c.len-3.result in
     let put =
     subst (λ (one : Accepted). HasPut c.self.inside.places c.put.new.self one.id place) c.batch.view_is
@@ -26,7 +27,8 @@ invariant_of-result g c =
     let receipts = length-map c.self.inside.receipts.items receipt_of in
     let batches = length-map c.self.inside.batches.items arc_value in
     let old : IsLegal c.args.self = subst IsLegal c.self.view_is c.self.invariant.legal in
-    let legal = legal_stored c.args.self batch old c.requires.writes c.if-not-is_new.ensures c.if-not-is_later.ensures c.in_ok-rows.ensures.ok in
+    let legal = legal_stored c.args.self batch old c.requires.writes c.if-not-is_new.ensures c.if-not-is_later.ensures
+    c.in_ok-rows.ensures.ok in
     let more = subst (λ (book : Book). IsLegal (with_batch book batch)) (sym c.self.view_is) legal in
     let writes = ap (λ (one : Accepted). one.writes) c.batch.view_is in
     read_more _ batch _ _ place _ _ _ _ _ c.self.invariant more

@@ -11,9 +11,11 @@ returns-clause-ahead g c =
     let kept = i.end - i.start in
     let moved = c.move_to_front.new.buffer in
     let read = c.read_behind.new.buffer in
-    let moved_long : length moved ≡ i.buffer.len = omega (arith, c.deref_mut.ensures.len, c.move_to_front.auto.buffer) in
+    let moved_long : length moved ≡ i.buffer.len =
+    omega (arith, c.deref_mut.ensures.len, c.move_to_front.auto.buffer) in
     let read_long : length read ≡ i.buffer.len = omega (arith, c.deref_mut-2.ensures.len, c.read_behind.auto.buffer) in
-    let same : c.deref_mut-2.result.now ≡ moved = c.deref_mut-2.ensures.value ∙ with_items_is i.buffer moved moved_long in
+    let same : c.deref_mut-2.result.now ≡ moved = c.deref_mut-2.ensures.value
+    ∙ with_items_is i.buffer moved moved_long in
     let front : take kept read ≡ take kept moved = c.read_behind.ensures.front ∙ ap (take kept) same in
     let first : take kept moved ≡ slice_range i.buffer.items i.start i.end =
     c.move_to_front.ensures ∙ ap (λ xs. slice_range xs i.start i.end) c.deref_mut.ensures.value in

@@ -18,7 +18,8 @@ new-requires-3-clause-rule g c =
       shown_first g.J.Naming.name g.J.Naming.opening _ _
           (first.1 ∙ (c.into_parts-head.ensures.mark ∙ ap none c.requires.name))
           (subst IsLegal c.requires.opening c.front.ensures.legal)
-          (rw first.0 (subst (λ (b : Book). StandsFor (arc_value c.front.result.now) b) c.requires.opening c.front.ensures.stands)),
+          (rw first.0 (subst (λ (b : Book). StandsFor (arc_value c.front.result.now) b) c.requires.opening
+          c.front.ensures.stands)),
       first_kept (log_of c.in_ok-first.first),
     )
 

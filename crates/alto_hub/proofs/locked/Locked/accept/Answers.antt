@@ -10,12 +10,16 @@ pub edit-requires : goal.edit-requires
 edit-requires g c = subst (λ (s : Submitted). All IsEdit s.0.edits) (sym c.submission.view_is) c.requires
 
 pub add-requires : goal.add-requires
-add-requires g c = record { head = rw c.self.invariant.0.named c.self.invariant.0.headed; free = c.ask-ask.ensures.free }
+add-requires g c = record {
+  head = rw c.self.invariant.0.named c.self.invariant.0.headed;
+  free = c.ask-ask.ensures.free;
+}
 
 -- ---- accepted
 
 pub returns-clause-ok : goal.returns-clause-ok
-returns-clause-ok g c = rw (← c.self.view_is, ← c.submission.view_is, ← c.self.invariant.0.same) c.in_ok-receipt.ensures.ok
+returns-clause-ok g c = rw (← c.self.view_is, ← c.submission.view_is, ← c.self.invariant.0.same)
+    c.in_ok-receipt.ensures.ok
 
 pub returns-clause-accepted : goal.returns-clause-accepted
 returns-clause-accepted g c =
@@ -32,7 +36,8 @@ invariant_of-self-2 g c =
     let book = c.self.inside.desk.ledger.book in
     let after : Submitted → Reached = λ import. record { name = mark.name; log = mark.log ++ import ∷ [] } in (
       locked_more _ _ book _ _ mark _ _ _ c.args.submission c.self.invariant.0 c.requires
-          (subst (λ (s : Submitted). c.edit.new.self.ledger.book ≡ (accept book s.0 s.1).book) c.submission.view_is c.in_ok-receipt.ensures.accepted)
+          (subst (λ (s : Submitted). c.edit.new.self.ledger.book ≡ (accept book s.0 s.1).book) c.submission.view_is
+          c.in_ok-receipt.ensures.accepted)
           (c.add.ensures ∙ ap after c.ask-ask.ensures.import),
       λ clean.
           let before = c.self.invariant.1 (c.in_ok-receipt.ensures.clean clean) in

@@ -4,7 +4,8 @@ use Rattle.alto_hub.proofs.visitor.Visitor.look.Goals as goal
 
 pub returns-clause-looked : goal.returns-clause-looked
 returns-clause-looked g c =
-    rw (← c.self.view_is) (IfOk-weaker c.look.result _ _ (λ front sees. seat_looks _ _ _ _ _ _ sees) c.look.ensures.looked)
+    rw (← c.self.view_is) (IfOk-weaker c.look.result _ _ (λ front sees. seat_looks _ _ _ _ _ _ sees)
+    c.look.ensures.looked)
 
 pub returns-clause-lost : goal.returns-clause-lost
 returns-clause-lost g c =

@@ -9,7 +9,8 @@ use Rattle.alto_versions.proofs.PushedLemmas.{rows_newest}
 use Rattle.tips_graph.specs.Graph.{GraphData, Push}
 use Rattle.tips_graph.specs.Keys.{key_set}
 use Rattle.tips_graph.specs.Sound.{IsSound}
-use Rattle.alto_versions.proofs.followed.Followed.push.Goals.{in-Some+in_ok-document+in_ok-newest+in_ok-new+in_ok-push, in_default}
+use Rattle.alto_versions.proofs.followed.Followed.push.Goals.{in-Some+in_ok-document+in_ok-newest+in_ok-new+in_ok-push}
+use Rattle.alto_versions.proofs.followed.Followed.push.Goals.{in_default}
 use Rattle.alto_versions.proofs.followed.Followed.push.Goals as goal
 
 pub newest-requires-clause-last : goal.newest-requires-clause-last
@@ -37,7 +38,12 @@ invariant_of-result g c =
           rw c.in_ok-copy_of.ensures
           (elim c.match-document.branch [
             | in-Some+in_ok-document+in_ok-newest+in_ok-new+in_ok-push w ↦
-                rw (w.texts-is, w.in_ok-push.ensures.items, map-append arc_value c.in_ok-texts.texts.items (w.in_ok-new.field-0 ∷ []))
+                rw (
+                  w.texts-is,
+                  w.in_ok-push.ensures.items,
+                  map-append arc_value c.in_ok-texts.texts.items
+                      (w.in_ok-new.field-0 ∷ []),
+                )
                 (All-push (AreTextsAt c.in_ok-graph.graph of) kept (arc_value w.in_ok-new.field-0) still
                 (subst (AreTextsAt c.in_ok-graph.graph of) (sym w.in_ok-new.ensures.ok) w.in_ok-newest.ensures))
             | in_default w ↦ rw w.texts-is still

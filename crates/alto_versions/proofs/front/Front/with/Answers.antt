@@ -28,7 +28,8 @@ graphs_after-requires-clause-texts g c = λ of.
     let had = c.in_ok-texts.ensures before led
     (subst (AreTextsOf before) (ap entries (sym c.deref-3.ensures.value)) c.self.invariant.0) in
     let told = text_told _ of (entries c.in_ok-texts.texts.items) _ had refl in
-    subst (λ texts. IfSome (text_in (entries texts) of) (λ text. text ≡ map_pieces (g.R.RowStore.rows (arc_value c.in_ok-rows.rows)) of))
+    subst (λ texts. IfSome (text_in (entries texts) of) (λ text. text
+    ≡ map_pieces (g.R.RowStore.rows (arc_value c.in_ok-rows.rows)) of))
     (sym c.deref-7.ensures.value)
     (IfSome_then (text_in (entries c.in_ok-texts.texts.items) of) told
     (λ text is. is.whole ∙ ap (λ (rows : Rows). map_pieces rows of) same))
@@ -38,14 +39,17 @@ returns g c = λ book legal legal_more stands.
     let writes = ap (λ (batch : Accepted). batch.writes) c.batch.view_is in
     let led : g.R.RowStore.rows (arc_value c.in_ok-rows.rows) ≡ after c.args.self.now.rows c.args.batch.now.writes =
     ap g.R.RowStore.rows c.in_ok-rows.ensures.ok ∙ (c.in_ok-with.ensures
-    ∙ rw (c.deref.ensures, c.deref-2.ensures.value, writes) (ap (λ (version : Version). after version.rows c.args.batch.now.writes) c.self.view_is)) in
+    ∙ rw (c.deref.ensures, c.deref-2.ensures.value, writes)
+    (ap (λ (version : Version). after version.rows c.args.batch.now.writes) c.self.view_is)) in
     let seen : g.R.RowStore.rows c.deref-10.result.now ≡ after (rows_of book) c.deref-11.result.now =
     rw (c.deref-11.ensures.value, writes)
-    (ap g.R.RowStore.rows c.deref-10.ensures ∙ (led ∙ ap (λ (rows : Rows). after rows c.args.batch.now.writes) stands.current)) in
+    (ap g.R.RowStore.rows c.deref-10.ensures
+    ∙ (led ∙ ap (λ (rows : Rows). after rows c.args.batch.now.writes) stands.current)) in
     stands_more book c.args.batch.now c.args.self.now _ stands
     (ap (λ (version : Version). version.n + 1) c.self.view_is)
     led
-    (λ current. c.in_ok-graphs.ensures.later book c.args.batch.now legal legal_more current (c.deref-8.ensures.value ∙ writes)
+    (λ current. c.in_ok-graphs.ensures.later book c.args.batch.now legal legal_more
+    current (c.deref-8.ensures.value ∙ writes)
     (ap entries c.deref-6.ensures.value ∙ (ap (λ (version : Version). version.graphs) c.self.view_is ∙ stands.graphs)))
     (λ current. c.in_ok-tables.ensures (rows_of book) seen
     (ap entries c.deref-9.ensures.value ∙ (ap (λ (version : Version). version.tables) c.self.view_is ∙ stands.tables))

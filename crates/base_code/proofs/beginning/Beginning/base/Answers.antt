@@ -24,6 +24,11 @@ returns c =
     let rows : length c.self.inside.rows.items ≡ c.self.inside.count =
     omega (arith, is.first_rows.within, c.if-len-self-2.false, c.len-2.ensures, c.self.inside.rows.ok) in
     let inside = c.self.inside in
-    let begun : BeginningData = record { b = inside.b; count = inside.count; receipts = inside.receipts.items; rows = inside.rows.items } in
+    let begun : BeginningData = record {
+      b = inside.b;
+      count = inside.count;
+      receipts = inside.receipts.items;
+      rows = inside.rows.items;
+    } in
     let all : IsWhole begun = record { receipts = receipts; rows = rows } in
     (is_base begun is all, ap beginning_pieces (sym c.self.view_is) ∙ base_is begun is all)

@@ -9,5 +9,8 @@ returns-in_err-b-clause-stops c =
 
 pub returns-clause-ok : goal.returns-clause-ok
 returns-clause-ok c =
-    rw (c.new.ensures.items, c.new-2.ensures.items)
-    (bare_is c.in_ok-b.b c.in_ok-b.count c.args.piece.now c.in_ok-b.ensures.ok, bare_begins c.in_ok-b.b c.in_ok-b.count c.args.piece.now c.in_ok-b.ensures.ok)
+    rw (c.new.ensures.items, c.new-2.ensures.items) (
+      bare_is c.in_ok-b.b c.in_ok-b.count c.args.piece.now c.in_ok-b.ensures.ok,
+      bare_begins c.in_ok-b.b c.in_ok-b.count
+          c.args.piece.now c.in_ok-b.ensures.ok,
+    )

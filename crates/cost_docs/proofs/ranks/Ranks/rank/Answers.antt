@@ -16,6 +16,8 @@ returns c =
     let sorted : IsStrictlySortedBy nat_cmp costs = rw c.deref.ensures.value c.self.invariant in
     let point =
     IsPartitionPoint-from_clause (λ other. nat_lt other c.args.cost) costs at c.partition_point.ensures.partitioned
-    (IsPartitionedBy-ltb (λ n. n) costs c.args.cost (non_decreasing_from_sorted costs sorted)) (λ a r f k. search rules) in
-    ap (λ n. n + 1) (sym (count_passing (λ other. nat_lt other c.args.cost) costs at c.partition_point.ensures.bound point.0 point.1))
+    (IsPartitionedBy-ltb (λ n. n) costs c.args.cost (non_decreasing_from_sorted costs sorted))
+    (λ a r f k. search rules) in
+    ap (λ n. n + 1) (sym (count_passing (λ other. nat_lt other c.args.cost) costs at c.partition_point.ensures.bound
+    point.0 point.1))
     ∙ ap (λ (among : List ℕ). rank_among among c.args.cost) (c.deref.ensures.value ∙ c.self.view_is)

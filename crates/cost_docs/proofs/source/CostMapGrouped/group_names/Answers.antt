@@ -7,5 +7,6 @@ pub returns : goal.returns
 returns g c =
     rw (← c.self.view_is)
     (IfOk-weaker c.group_names.result _ _
-    (λ names is. is ∙ sym (sources_set c.self.inside.net.now c.self.inside.metric.now (g.R.RowStore.rows c.self.inside.rows.now)))
+    (λ names is. is ∙ sym (sources_set c.self.inside.net.now c.self.inside.metric.now
+    (g.R.RowStore.rows c.self.inside.rows.now)))
     c.group_names.ensures)

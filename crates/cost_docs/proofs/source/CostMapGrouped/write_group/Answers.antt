@@ -9,7 +9,8 @@ use Rattle.cost_docs.proofs.source.CostMapGrouped.write_group.Goals as goal
 pub unreachable-requires : goal.unreachable-requires
 unreachable-requires g c =
     (rw c.in-None.is at c.in_ok-source.ensures)
-    (standing_named c.self.inside.net.now c.self.inside.metric.now c.args.name.now (g.R.RowStore.rows c.self.inside.rows.now) c.self.invariant
+    (standing_named c.self.inside.net.now c.self.inside.metric.now c.args.name.now
+    (g.R.RowStore.rows c.self.inside.rows.now) c.self.invariant
     (rw (← c.self.view_is) at c.requires))
 
 pub returns : goal.returns

@@ -7,5 +7,6 @@ pub returns : goal.returns
 returns g c =
     rw (← c.self.view_is)
     (IfOk-weaker c.groups.result _ _
-    (λ tree is. is ∙ groups_as_are c.self.inside.net.now c.self.inside.metric.now (g.R.RowStore.rows c.self.inside.rows.now))
+    (λ tree is. is ∙ groups_as_are c.self.inside.net.now c.self.inside.metric.now
+    (g.R.RowStore.rows c.self.inside.rows.now))
     c.groups.ensures)

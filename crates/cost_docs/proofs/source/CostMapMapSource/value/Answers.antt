@@ -9,4 +9,5 @@ returns g c =
     rw (← c.self.view_is)
     (c.number_of.ensures
     ∙ (ap (option_map (λ n. number (unsigned n))) c.in_ok-cost.ensures
-    ∙ sym (member_is c.self.inside.net.now c.self.inside.metric.now rows c.args.name.now c.args.member.now c.self.invariant)))
+    ∙ sym (member_is c.self.inside.net.now c.self.inside.metric.now rows c.args.name.now c.args.member.now
+    c.self.invariant)))

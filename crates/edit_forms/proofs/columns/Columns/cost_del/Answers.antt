@@ -7,12 +7,19 @@ use Rattle.edit_forms.proofs.columns.Columns.cost_del.Goals as goal
 pub returns-in_err-source-clause-answer : goal.returns-in_err-source-clause-answer
 returns-in_err-source-clause-answer c =
     let p = err_from_is_err_and c.from_residual-in_err-source.result c.from_residual-in_err-source.ensures.1 in
-    rw (p.1, p.2) (then_value _ _ _ c.in_ok-metric.metric (Err c.in_err-source.field-0.0) c.in_ok-metric.ensures.answer (then_fault _ _ _ c.in_err-source.field-0.0 c.in_err-source.ensures.answer))
+    rw (p.1, p.2) (then_value _ _ _ c.in_ok-metric.metric (Err c.in_err-source.field-0.0) c.in_ok-metric.ensures.answer
+    (then_fault _ _ _ c.in_err-source.field-0.0 c.in_err-source.ensures.answer))
 
 pub returns-in_err-destination-clause-answer : goal.returns-in_err-destination-clause-answer
 returns-in_err-destination-clause-answer c =
-    let p = err_from_is_err_and c.from_residual-in_err-destination.result c.from_residual-in_err-destination.ensures.1 in
-    rw (p.1, p.2) (then_value _ _ _ c.in_ok-metric.metric (Err c.in_err-destination.field-0.0) c.in_ok-metric.ensures.answer (then_value _ _ _ c.in_ok-source.source (Err c.in_err-destination.field-0.0) c.in_ok-source.ensures.answer (then_fault _ _ _ c.in_err-destination.field-0.0 c.in_err-destination.ensures.answer)))
+    let p = err_from_is_err_and c.from_residual-in_err-destination.result
+    c.from_residual-in_err-destination.ensures.1 in
+    rw (p.1, p.2) (then_value _ _ _ c.in_ok-metric.metric (Err c.in_err-destination.field-0.0)
+    c.in_ok-metric.ensures.answer (then_value _ _ _ c.in_ok-source.source (Err c.in_err-destination.field-0.0)
+    c.in_ok-source.ensures.answer (then_fault _ _ _ c.in_err-destination.field-0.0
+    c.in_err-destination.ensures.answer)))
 
 pub returns-clause-answer : goal.returns-clause-answer
-returns-clause-answer c = then_value _ _ _ c.in_ok-metric.metric _ c.in_ok-metric.ensures.answer (then_value _ _ _ c.in_ok-source.source _ c.in_ok-source.ensures.answer (then_value _ _ _ c.in_ok-destination.destination _ c.in_ok-destination.ensures.answer c.ends.ensures.answer))
+returns-clause-answer c = then_value _ _ _ c.in_ok-metric.metric _ c.in_ok-metric.ensures.answer
+    (then_value _ _ _ c.in_ok-source.source _ c.in_ok-source.ensures.answer
+    (then_value _ _ _ c.in_ok-destination.destination _ c.in_ok-destination.ensures.answer c.ends.ensures.answer))

@@ -7,7 +7,9 @@ use Rattle.edit_forms.proofs.columns.Columns.prop_del.Goals as goal
 pub returns-in_err-name-clause-answer : goal.returns-in_err-name-clause-answer
 returns-in_err-name-clause-answer c =
     let p = err_from_is_err_and c.from_residual-in_err-name.result c.from_residual-in_err-name.ensures.1 in
-    rw (p.1, p.2) (then_value _ _ _ c.in_ok-entity.entity (Err c.in_err-name.field-0.0) c.in_ok-entity.ensures.answer (then_fault _ _ _ c.in_err-name.field-0.0 c.in_err-name.ensures.answer))
+    rw (p.1, p.2) (then_value _ _ _ c.in_ok-entity.entity (Err c.in_err-name.field-0.0) c.in_ok-entity.ensures.answer
+    (then_fault _ _ _ c.in_err-name.field-0.0 c.in_err-name.ensures.answer))
 
 pub returns-clause-answer : goal.returns-clause-answer
-returns-clause-answer c = then_value _ _ _ c.in_ok-entity.entity _ c.in_ok-entity.ensures.answer (then_value _ _ _ c.in_ok-name.name _ c.in_ok-name.ensures.answer c.ends.ensures.answer)
+returns-clause-answer c = then_value _ _ _ c.in_ok-entity.entity _ c.in_ok-entity.ensures.answer
+    (then_value _ _ _ c.in_ok-name.name _ c.in_ok-name.ensures.answer c.ends.ensures.answer)

@@ -7,17 +7,26 @@ use Rattle.edit_forms.proofs.columns.Columns.prop_put.Goals as goal
 pub returns-in_err-name-clause-answer : goal.returns-in_err-name-clause-answer
 returns-in_err-name-clause-answer c =
     let p = err_from_is_err_and c.from_residual-in_err-name.result c.from_residual-in_err-name.ensures.1 in
-    rw (p.1, p.2) (then_value _ _ _ c.in_ok-entity.entity (Err c.in_err-name.field-0.0) c.in_ok-entity.ensures.answer (then_fault _ _ _ c.in_err-name.field-0.0 c.in_err-name.ensures.answer))
+    rw (p.1, p.2) (then_value _ _ _ c.in_ok-entity.entity (Err c.in_err-name.field-0.0) c.in_ok-entity.ensures.answer
+    (then_fault _ _ _ c.in_err-name.field-0.0 c.in_err-name.ensures.answer))
 
 pub returns-in_err-kind-clause-answer : goal.returns-in_err-kind-clause-answer
 returns-in_err-kind-clause-answer c =
     let p = err_from_is_err_and c.from_residual-in_err-kind.result c.from_residual-in_err-kind.ensures.1 in
-    rw (p.1, p.2) (then_value _ _ _ c.in_ok-entity.entity (Err c.in_err-kind.field-0.0) c.in_ok-entity.ensures.answer (then_value _ _ _ c.in_ok-name.name (Err c.in_err-kind.field-0.0) c.in_ok-name.ensures.answer (then_fault _ _ _ c.in_err-kind.field-0.0 c.in_err-kind.ensures)))
+    rw (p.1, p.2) (then_value _ _ _ c.in_ok-entity.entity (Err c.in_err-kind.field-0.0) c.in_ok-entity.ensures.answer
+    (then_value _ _ _ c.in_ok-name.name (Err c.in_err-kind.field-0.0) c.in_ok-name.ensures.answer
+    (then_fault _ _ _ c.in_err-kind.field-0.0 c.in_err-kind.ensures)))
 
 pub returns-in_err-value-clause-answer : goal.returns-in_err-value-clause-answer
 returns-in_err-value-clause-answer c =
     let p = err_from_is_err_and c.from_residual-in_err-value.result c.from_residual-in_err-value.ensures.1 in
-    rw (p.1, p.2) (then_value _ _ _ c.in_ok-entity.entity (Err c.in_err-value.field-0.0) c.in_ok-entity.ensures.answer (then_value _ _ _ c.in_ok-name.name (Err c.in_err-value.field-0.0) c.in_ok-name.ensures.answer (then_value _ _ _ c.in_ok-kind.kind (Err c.in_err-value.field-0.0) c.in_ok-kind.ensures (then_fault _ _ _ c.in_err-value.field-0.0 c.in_err-value.ensures.answer))))
+    rw (p.1, p.2) (then_value _ _ _ c.in_ok-entity.entity (Err c.in_err-value.field-0.0) c.in_ok-entity.ensures.answer
+    (then_value _ _ _ c.in_ok-name.name (Err c.in_err-value.field-0.0) c.in_ok-name.ensures.answer
+    (then_value _ _ _ c.in_ok-kind.kind (Err c.in_err-value.field-0.0) c.in_ok-kind.ensures
+    (then_fault _ _ _ c.in_err-value.field-0.0 c.in_err-value.ensures.answer))))
 
 pub returns-clause-answer : goal.returns-clause-answer
-returns-clause-answer c = then_value _ _ _ c.in_ok-entity.entity _ c.in_ok-entity.ensures.answer (then_value _ _ _ c.in_ok-name.name _ c.in_ok-name.ensures.answer (then_value _ _ _ c.in_ok-kind.kind _ c.in_ok-kind.ensures (then_value _ _ _ c.in_ok-value.value _ c.in_ok-value.ensures.answer c.ends.ensures.answer)))
+returns-clause-answer c = then_value _ _ _ c.in_ok-entity.entity _ c.in_ok-entity.ensures.answer
+    (then_value _ _ _ c.in_ok-name.name _ c.in_ok-name.ensures.answer
+    (then_value _ _ _ c.in_ok-kind.kind _ c.in_ok-kind.ensures
+    (then_value _ _ _ c.in_ok-value.value _ c.in_ok-value.ensures.answer c.ends.ensures.answer)))

@@ -10,4 +10,5 @@ returns g c =
     let rows = g.R.RowStore.rows c.self.inside.rows.now in
     let net = c.self.inside.net.now in
     rw (← c.self.view_is)
-    (IfOk-weaker c.group_names.result _ _ (λ names is. is ∙ sym (set_of-rising (entities_of rows net) (rise-set_of _))) c.group_names.ensures)
+    (IfOk-weaker c.group_names.result _ _ (λ names is. is ∙ sym (set_of-rising (entities_of rows net) (rise-set_of _)))
+    c.group_names.ensures)
