@@ -9,7 +9,8 @@ use Rattle.row_chunks.specs.Blocks.{AllBegin, Placed, joined}
 use Rattle.row_chunks.proofs.BlockLemmas.{joined-append}
 
 -- what holds of each holds with one more
-pub all_push : {X : Type 0} (P : X → Type 0) (xs : List X) (x : X) → AllByRecursion P xs → P x → AllByRecursion P (xs ++ x ∷ [])
+pub all_push : {X : Type 0} (P : X → Type 0) (xs : List X) (x : X) → AllByRecursion P xs → P x
+    → AllByRecursion P (xs ++ x ∷ [])
 all_push P [] x h p = (p, tt)
 all_push P (y ∷ xs) x h p = (h.0, all_push P xs x h.1 p)
 
@@ -24,10 +25,12 @@ begin_right (slot ∷ front) back b = begin_right front back b.1
 
 -- a list more, and the pieces left are all
 pub list_more : (lists : List Rows) (list : Rows) (piece others : List Placed) (whole : Rows) → list ≡ joined piece
-    → flat_map (λ list. list) lists ++ joined (piece ++ others) ≡ whole → flat_map (λ list. list) (lists ++ list ∷ []) ++ joined others ≡ whole
+    → flat_map (λ list. list) lists ++ joined (piece ++ others) ≡ whole
+    → flat_map (λ list. list) (lists ++ list ∷ []) ++ joined others ≡ whole
 list_more lists list piece others whole is e =
     ap (λ (more : Rows). more ++ joined others)
-    (flat_map-append (λ (list : Rows). list) lists (list ∷ []) ∙ ap (λ (more : Rows). flat_map (λ (list : Rows). list) lists ++ more) (append-nil list ∙ is))
+    (flat_map-append (λ (list : Rows). list) lists (list ∷ [])
+    ∙ ap (λ (more : Rows). flat_map (λ (list : Rows). list) lists ++ more) (append-nil list ∙ is))
     ∙ append_assoc (flat_map (λ (list : Rows). list) lists) (joined piece) (joined others)
     ∙ ap (λ (more : Rows). flat_map (λ (list : Rows). list) lists ++ more) (sym (joined-append piece others))
     ∙ e

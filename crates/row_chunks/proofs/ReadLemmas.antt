@@ -20,7 +20,8 @@ value_from : (rows : Rows) (key : Key) → value_of (rows_from rows key) key ≡
 value_from rows key = value_of-rows_from rows key key ∙ rw (key_cmp_itself key) refl
 
 -- the first row of a run is the first of all
-first_in_run : (all run : Rows) (row : Key × Value) → IsRunOf all run → slice_get run 0 ≡ Some row → slice_get all 0 ≡ Some row
+first_in_run : (all run : Rows) (row : Key × Value) → IsRunOf all run → slice_get run 0 ≡ Some row
+    → slice_get all 0 ≡ Some row
 first_in_run all [] row r is = cc
 first_in_run all (first ∷ run) row r is = rw r.whole is
 
@@ -31,18 +32,22 @@ record Begins (rows : Rows) (row : Key × Value) : Type 0 where
 
 begins : (rows : Rows) (row : Key × Value) → slice_get rows 0 ≡ Some row → Begins rows row
 begins [] row is = cc
-begins (first ∷ rows) row is = let same : first ≡ row = cc in record { rest = rows; whole = ap (λ (one : Key × Value). one ∷ rows) same }
+begins (first ∷ rows) row is = let same : first ≡ row = cc in
+    record { rest = rows; whole = ap (λ (one : Key × Value). one ∷ rows) same }
 
 -- where the run is empty, the key has no value
-pub value_of-no_run : (rows : Rows) (key : Key) (run : Rows) → IsRunOf (rows_from rows key) run → slice_get run 0 ≡ None → value_of rows key ≡ None
+pub value_of-no_run : (rows : Rows) (key : Key) (run : Rows) → IsRunOf (rows_from rows key) run → slice_get run 0 ≡ None
+    → value_of rows key ≡ None
 value_of-no_run rows key [] r is = sym (value_from rows key) ∙ rw (r.some refl) refl
 value_of-no_run rows key (row ∷ run) r is = cc
 
 -- where its first row is the key's, its value
-pub value_of-run : (rows : Rows) (key : Key) (run : Rows) (row : Key × Value) → IsRunOf (rows_from rows key) run → slice_get run 0 ≡ Some row
+pub value_of-run : (rows : Rows) (key : Key) (run : Rows) (row : Key × Value) → IsRunOf (rows_from rows key) run
+    → slice_get run 0 ≡ Some row
     → is_eq (key_cmp key row.0) ≡ true → value_of rows key ≡ Some row.1
 value_of-run rows key run row r is same =
-    let b : Begins (rows_from rows key) row = begins (rows_from rows key) row (first_in_run (rows_from rows key) run row r is) in
+    let b : Begins (rows_from rows key) row =
+    begins (rows_from rows key) row (first_in_run (rows_from rows key) run row r is) in
     sym (value_from rows key) ∙ rw b.whole (value_of-first key row b.rest (equal_tests (key_cmp key row.0) same))
 
 -- what is neither equal nor greater is less
@@ -52,15 +57,18 @@ less_left Equal e g = cc
 less_left Greater e g = cc
 
 -- where it is another's, none
-pub value_of-other_run : (rows : Rows) (key : Key) (run : Rows) (row : Key × Value) → AreSorted rows → IsRunOf (rows_from rows key) run
+pub value_of-other_run : (rows : Rows) (key : Key) (run : Rows) (row : Key × Value) → AreSorted rows
+    → IsRunOf (rows_from rows key) run
     → slice_get run 0 ≡ Some row → is_eq (key_cmp key row.0) ≡ false → value_of rows key ≡ None
 value_of-other_run rows key run row s r is apart =
-    let b : Begins (rows_from rows key) row = begins (rows_from rows key) row (first_in_run (rows_from rows key) run row r is) in
+    let b : Begins (rows_from rows key) row =
+    begins (rows_from rows key) row (first_in_run (rows_from rows key) run row r is) in
     let from : AreFrom key (row ∷ b.rest) = rw b.whole at (from_rows_from rows key) in
     let sorted : AreSorted (row ∷ b.rest) = rw b.whole at (sorted_rows_from rows key s) in
     let less : key_cmp key row.0 ≡ Less = less_left (key_cmp key row.0) apart from.0 in
     sym (value_from rows key)
-    ∙ rw b.whole (value_of-past key (row ∷ b.rest) (less, past_lesser key row.0 less b.rest (past_first row b.rest sorted)))
+    ∙ rw b.whole (value_of-past key (row ∷ b.rest)
+    (less, past_lesser key row.0 less b.rest (past_first row b.rest sorted)))
 
 -- the rows that aren't before a span are in it or behind it
 pub span_counts : (s : Span) (rows : Rows)
@@ -70,7 +78,10 @@ span_counts s (row ∷ rows) = by (span_counts s rows) (span_cmp s row.0) refl
   where
     by : length (rows_from_span rows s) ≡ count_in rows s + length (filter (λ row. is_lt (span_cmp s row.0)) rows)
         → (o : Ordering) → span_cmp s row.0 ≡ o
-        → length (rows_from_span (row ∷ rows) s) ≡ count_in (row ∷ rows) s + length (filter (λ row. is_lt (span_cmp s row.0)) (row ∷ rows))
-    by below Less e = let out : is_in s row.0 ≡ false = in_span s row.0 ∙ ap is_eq e in rw (out, e) (omega (arith, below))
-    by below Equal e = let in_it : is_in s row.0 ≡ true = in_span s row.0 ∙ ap is_eq e in rw (in_it, e) (omega (arith, below))
+        → length (rows_from_span (row ∷ rows) s)
+        ≡ count_in (row ∷ rows) s + length (filter (λ row. is_lt (span_cmp s row.0)) (row ∷ rows))
+    by below Less e = let out : is_in s row.0 ≡ false = in_span s row.0 ∙ ap is_eq e in
+        rw (out, e) (omega (arith, below))
+    by below Equal e = let in_it : is_in s row.0 ≡ true = in_span s row.0 ∙ ap is_eq e in
+        rw (in_it, e) (omega (arith, below))
     by below Greater e = let out : is_in s row.0 ≡ false = in_span s row.0 ∙ ap is_eq e in rw (out, e) below

@@ -1,5 +1,6 @@
 -- Writes whose keys rise are changes as they stand, and a key that isn't after the first row goes there.
-use Rattle.std.proofs.Common.{◌≡◌, ℕ, ◌+◌, ◌<◌, ◌≤◌, refl, ap, sym, ◌∙◌, subst, arith, drop, get_or, append-nil, append_assoc}
+use Rattle.std.proofs.Common.{◌≡◌, ℕ, ◌+◌, ◌<◌, ◌≤◌, refl, ap, sym, ◌∙◌, subst, arith, drop, get_or, append-nil}
+use Rattle.std.proofs.Common.{append_assoc}
 use Rattle.std.proofs.lemmas.List.{drop_all, drop_more}
 use Rattle.std.specs.Prelude.{true, Option, List, [], ◌∷◌, ◌++◌, Some, Ok, Err, length, slice_get}
 use Rattle.std.specs.List.{AllByRecursion}
@@ -31,10 +32,12 @@ pub made_do : (writes : List Write) → DoAs writes (changes_made writes)
 made_do writes rows s = made_one_by_one rows writes
 
 -- what is after a key is after a lesser one
-after_lesser : (low high : Key) → key_cmp low high ≡ Less → (changes : Changes) → AllByRecursion (λ key. key_cmp high key ≡ Less) (keys_of changes)
+after_lesser : (low high : Key) → key_cmp low high ≡ Less → (changes : Changes)
+    → AllByRecursion (λ key. key_cmp high key ≡ Less) (keys_of changes)
     → AllByRecursion (λ key. key_cmp low key ≡ Less) (keys_of changes)
 after_lesser low high less [] h = tt
-after_lesser low high less (change ∷ changes) h = (key_cmp_total.trans low high change.0 less h.0, after_lesser low high less changes h.1)
+after_lesser low high less (change ∷ changes) h =
+    (key_cmp_total.trans low high change.0 less h.0, after_lesser low high less changes h.1)
 
 -- no changes are in order
 pub rising_none : (writes : List Write) → length writes ≡ 0 → AreOrdered (changes_made writes)
@@ -48,7 +51,8 @@ unfolding IsStrictlySortedBy
 rising_one write = (tt, tt)
 
 -- changes in order stay so behind one of a lesser key
-rising_more : (last write : Write) (more : List Write) → key_cmp last.key write.key ≡ Less → AreOrdered (changes_made (write ∷ more))
+rising_more : (last write : Write) (more : List Write) → key_cmp last.key write.key ≡ Less
+    → AreOrdered (changes_made (write ∷ more))
     → AreOrdered (changes_made (last ∷ write ∷ more))
 unfolding IsStrictlySortedBy
 rising_more last write more less o = ((less, after_lesser last.key write.key less (changes_made more) o.0), o)
@@ -59,14 +63,16 @@ less_tests Equal h = cc
 less_tests Greater h = cc
 
 -- a loop over the writes behind the first begins with all
-pub rising_begun : (writes : List Write) (first : Write) (rest : List Write) → writes ≡ first ∷ rest → AreOrdered (changes_made (first ∷ drop 0 rest))
+pub rising_begun : (writes : List Write) (first : Write) (rest : List Write) → writes ≡ first ∷ rest
+    → AreOrdered (changes_made (first ∷ drop 0 rest))
     → AreOrdered (changes_made writes)
 rising_begun writes first [] whole o = rw whole o
 rising_begun writes first (next ∷ rest) whole o = rw whole o
 
 -- goes on where the next write is behind the last
 pub rising_step : (last write : Write) (rest : List Write) (i : ℕ) → i < length rest → write ≡ get_or rest i write
-    → is_lt (key_cmp last.key write.key) ≡ true → AreOrdered (changes_made (write ∷ drop (i + 1) rest)) → AreOrdered (changes_made (last ∷ drop i rest))
+    → is_lt (key_cmp last.key write.key) ≡ true → AreOrdered (changes_made (write ∷ drop (i + 1) rest))
+    → AreOrdered (changes_made (last ∷ drop i rest))
 rising_step last write rest i within is less o =
     let step : drop i rest ≡ write ∷ drop (i + 1) rest =
     drop_more rest i write within ∙ ap (λ (one : Write). one ∷ drop (i + 1) rest) (sym is) in
@@ -74,47 +80,64 @@ rising_step last write rest i within is less o =
     (rising_more last write (drop (i + 1) rest) (less_tests (key_cmp last.key write.key) less) o)
 
 -- and ends behind the last
-pub rising_ended : (last : Write) (rest : List Write) (i : ℕ) → length rest ≤ i → AreOrdered (changes_made (last ∷ drop i rest))
+pub rising_ended : (last : Write) (rest : List Write) (i : ℕ) → length rest ≤ i
+    → AreOrdered (changes_made (last ∷ drop i rest))
 rising_ended last rest i ended =
-    subst (λ (more : List Write). AreOrdered (changes_made (last ∷ more))) (sym (drop_all i rest ended)) (rising_one last)
+    subst (λ (more : List Write). AreOrdered (changes_made (last ∷ more))) (sym (drop_all i rest ended))
+    (rising_one last)
 
 -- ---- copies of writes
 
 -- one copy more, of the next write
-pub made_step : (done more whole : Changes) (copy : Key × Option Value) (writes : List Write) (i : ℕ) (write : Write) → i < length writes
-    → write ≡ get_or writes i write → copy ≡ change_made write → more ≡ done ++ copy ∷ [] → done ++ changes_made (drop i writes) ≡ whole
+pub made_step : (done more whole : Changes) (copy : Key × Option Value) (writes : List Write) (i : ℕ) (write : Write)
+    → i < length writes
+    → write ≡ get_or writes i write → copy ≡ change_made write → more ≡ done ++ copy ∷ []
+    → done ++ changes_made (drop i writes) ≡ whole
     → more ++ changes_made (drop (i + 1) writes) ≡ whole
 made_step done more whole copy writes i write within is same all so_far =
     let step : drop i writes ≡ write ∷ drop (i + 1) writes =
     drop_more writes i write within ∙ ap (λ (one : Write). one ∷ drop (i + 1) writes) (sym is) in
-    ap (λ (front : Changes). front ++ changes_made (drop (i + 1) writes)) (all ∙ ap (λ (one : Key × Option Value). done ++ one ∷ []) same)
+    ap (λ (front : Changes). front ++ changes_made (drop (i + 1) writes))
+    (all ∙ ap (λ (one : Key × Option Value). done ++ one ∷ []) same)
     ∙ append_assoc done (change_made write ∷ []) (changes_made (drop (i + 1) writes))
     ∙ ap (λ (left : List Write). done ++ changes_made left) (sym step)
     ∙ so_far
 
 -- with no write left all are copied
-pub made_ended : (done whole : Changes) (writes : List Write) (i : ℕ) → length writes ≤ i → done ++ changes_made (drop i writes) ≡ whole → done ≡ whole
+pub made_ended : (done whole : Changes) (writes : List Write) (i : ℕ) → length writes ≤ i
+    → done ++ changes_made (drop i writes) ≡ whole → done ≡ whole
 made_ended done whole writes i ended so_far =
-    sym (append-nil done) ∙ ap (λ (left : List Write). done ++ changes_made left) (sym (drop_all i writes ended)) ∙ so_far
+    sym (append-nil done) ∙ ap (λ (left : List Write). done ++ changes_made left) (sym (drop_all i writes ended))
+    ∙ so_far
 
 -- ---- the first place
 
 -- a key before the first row has its place there
-pub place_before_first : (rows : Rows) (key : Key) (first : Key × Value) → AreSorted rows → slice_get rows 0 ≡ Some first → key_cmp key first.0 ≡ Less
+pub place_before_first : (rows : Rows) (key : Key) (first : Key × Value) → AreSorted rows
+    → slice_get rows 0 ≡ Some first → key_cmp key first.0 ≡ Less
     → place_of rows key ≡ Err 0
 place_before_first [] key first s is e = cc
 place_before_first (row ∷ rows) key first s is e =
     let same : row ≡ first = cc in
     let less : key_cmp key row.0 ≡ Less = rw same e in
     place_of-missing (row ∷ rows) key 0
-    (record { front = []; back = row ∷ rows; whole = refl; place = refl; before = tt; past = (less, past_lesser key row.0 less rows (past_first row rows s)) })
+    (record {
+      front = [];
+      back = row ∷ rows;
+      whole = refl;
+      place = refl;
+      before = tt;
+      past = (less, past_lesser key row.0 less rows (past_first row rows s));
+    })
 
 -- and so has the first row's
-pub place_at_first : (rows : Rows) (key : Key) (first : Key × Value) → AreSorted rows → slice_get rows 0 ≡ Some first → key_cmp key first.0 ≡ Equal
+pub place_at_first : (rows : Rows) (key : Key) (first : Key × Value) → AreSorted rows → slice_get rows 0 ≡ Some first
+    → key_cmp key first.0 ≡ Equal
     → place_of rows key ≡ Ok 0
 place_at_first [] key first s is e = cc
 place_at_first (row ∷ rows) key first s is e =
     let same : row ≡ first = cc in
     let equal : key_cmp key row.0 ≡ Equal = rw same e in
     let one : key ≡ row.0 = key_cmp_exact key row.0 equal in
-    place_of-found (row ∷ rows) key 0 s (record { front = []; value = row.1; back = rows; whole = rw one refl; place = refl })
+    place_of-found (row ∷ rows) key 0
+    s (record { front = []; value = row.1; back = rows; whole = rw one refl; place = refl })

@@ -1,5 +1,6 @@
 -- What two keys have in common with a third, those between them have, and the rest orders them.
-use Rattle.std.proofs.Common.{◌≡◌, ℕ, zero, suc, ◌+◌, ◌-◌, ◌<◌, ◌≤◌, refl, ap, sym, ◌∙◌, subst, arith, get_or, drop, map}
+use Rattle.std.proofs.Common.{◌≡◌, ℕ, zero, suc, ◌+◌, ◌-◌, ◌<◌, ◌≤◌, refl, ap, sym, ◌∙◌, subst, arith, get_or, drop}
+use Rattle.std.proofs.Common.{map}
 use Rattle.std.proofs.lemmas.Bool.{and_parts}
 use Rattle.std.proofs.lemmas.List.{drop_more}
 use Rattle.std.proofs.lemmas.Option.{get_or_from_slice_get}
@@ -34,7 +35,8 @@ use Rattle.row_chunks.proofs.CutLemmas.{cut_partitioned}
 -- ---- the order of the rest
 
 -- where two keys have so much in common, their order is that of the rest
-rest_orders : (low : Key) (shared : Shared) (at : Key) → shares low shared at ≡ true → order_of_rest low shared at ≡ key_cmp low at
+rest_orders : (low : Key) (shared : Shared) (at : Key) → shares low shared at ≡ true
+    → order_of_rest low shared at ≡ key_cmp low at
 unfolding key_cmp
 rest_orders low Nothing at h = refl
 rest_orders (key.Cost net metric source destination) Metric (key.Cost of other from to) h =
@@ -52,7 +54,8 @@ rest_orders (key.Cost net metric source destination) Source (key.Cost of other f
 rest_orders _ _ _ h = refl
 
 -- so it tells whether a key is behind a cut
-kept_in : (cut : Cut) (shared : Shared) (at : Key) → cut_shares cut shared at ≡ true → keeps_in cut shared at ≡ keeps cut at
+kept_in : (cut : Cut) (shared : Shared) (at : Key) → cut_shares cut shared at ≡ true
+    → keeps_in cut shared at ≡ keeps cut at
 kept_in (Before low) shared at h = ap (λ o. not (is_gt o)) (rest_orders low.now shared at h)
 kept_in (Behind low) shared at h = ap is_lt (rest_orders low.now shared at h)
 kept_in (BeforeSpan span) shared at h = refl
@@ -61,7 +64,8 @@ kept_in (BehindSpan span) shared at h = refl
 -- ---- keys between two
 
 -- a key between two of a span is in it
-between_in : (s : Span) (a x b : Key) → key_cmp a x ≡ Less → key_cmp x b ≡ Less → is_in s a ≡ true → is_in s b ≡ true → is_in s x ≡ true
+between_in : (s : Span) (a x b : Key) → key_cmp a x ≡ Less → key_cmp x b ≡ Less → is_in s a ≡ true → is_in s b ≡ true
+    → is_in s x ≡ true
 between_in s a x b below above one other = by (span_cmp s x) refl
   where
     by : (o : Ordering) → span_cmp s x ≡ o → is_in s x ≡ true
@@ -70,15 +74,18 @@ between_in s a x b below above one other = by (span_cmp s x) refl
     by Greater e = let out : is_in s a ≡ false = in_span s a ∙ ap is_eq ((span_falls s a x below).greater e) in cc
 
 -- so has a key between two as much in common with a third as both have
-between_shares : (low : Key) (shared : Shared) (a x b : Key) → key_cmp a x ≡ Less → key_cmp x b ≡ Less → shares low shared a ≡ true → shares low shared b ≡ true
+between_shares : (low : Key) (shared : Shared) (a x b : Key) → key_cmp a x ≡ Less → key_cmp x b ≡ Less
+    → shares low shared a ≡ true → shares low shared b ≡ true
     → shares low shared x ≡ true
 between_shares low Nothing a x b below above one other = refl
-between_shares (key.Cost net metric source destination) Metric a x b below above one other = between_in (span.CostsIn net metric) a x b below above one other
+between_shares (key.Cost net metric source destination) Metric a x b below above one other =
+    between_in (span.CostsIn net metric) a x b below above one other
 between_shares (key.Cost net metric source destination) Source a x b below above one other =
     between_in (span.CostsFrom net metric source) a x b below above one other
 between_shares _ _ a x b below above one other = cc
 
-between_cut : (cut : Cut) (shared : Shared) (a x b : Key) → key_cmp a x ≡ Less → key_cmp x b ≡ Less → cut_shares cut shared a ≡ true
+between_cut : (cut : Cut) (shared : Shared) (a x b : Key) → key_cmp a x ≡ Less → key_cmp x b ≡ Less
+    → cut_shares cut shared a ≡ true
     → cut_shares cut shared b ≡ true → cut_shares cut shared x ≡ true
 between_cut (Before low) shared a x b below above one other = between_shares low.now shared a x b below above one other
 between_cut (Behind low) shared a x b below above one other = between_shares low.now shared a x b below above one other
@@ -88,34 +95,43 @@ between_cut (BehindSpan span) shared a x b below above one other = refl
 -- ---- a search
 
 -- what holds of all holds of each
-holds_at : {X : Type 0} (P : X → Type 0) (xs : List X) (k : ℕ) (d : X) → k < length xs → AllByRecursion P xs → P (get_or xs k d)
+holds_at : {X : Type 0} (P : X → Type 0) (xs : List X) (k : ℕ) (d : X) → k < length xs → AllByRecursion P xs
+    → P (get_or xs k d)
 holds_at P [] k d within h = absurd (omega (arith, within))
 holds_at P (x ∷ xs) zero d within h = h.0
 holds_at P (x ∷ xs) (suc k) d within h = holds_at P xs k d (omega (arith, within)) h.1
 
 -- what has so much in common with the key of a cut can be searched by the rest
-pub partitioned_in : {X : Type 0} (key_of : X → Key) (cut : Cut) (shared : Shared) (xs : List X) → IsStrictlySortedBy key_cmp (map key_of xs)
-    → AllByRecursion (λ x. cut_shares cut shared (key_of x) ≡ true) xs → IsPartitionedBy (λ x. not (keeps_in cut shared (key_of x))) xs
+pub partitioned_in : {X : Type 0} (key_of : X → Key) (cut : Cut) (shared : Shared) (xs : List X)
+    → IsStrictlySortedBy key_cmp (map key_of xs)
+    → AllByRecursion (λ x. cut_shares cut shared (key_of x) ≡ true) xs
+    → IsPartitionedBy (λ x. not (keeps_in cut shared (key_of x))) xs
 partitioned_in key_of cut shared xs sorted share i j d below within later =
-    let of : (k : ℕ) → k < length xs → keeps_in cut shared (key_of (get_or xs k d)) ≡ keeps cut (key_of (get_or xs k d)) =
-    λ k inside. kept_in cut shared (key_of (get_or xs k d)) (holds_at (λ x. cut_shares cut shared (key_of x) ≡ true) xs k d inside share) in
+    let of : (k : ℕ) → k < length xs
+    → keeps_in cut shared (key_of (get_or xs k d)) ≡ keeps cut (key_of (get_or xs k d)) =
+    λ k inside. kept_in cut shared (key_of (get_or xs k d)) (holds_at (λ x. cut_shares cut shared (key_of x) ≡ true) xs
+    k d inside share) in
     ap not (of i (omega (arith, below, within)))
     ∙ cut_partitioned key_of cut xs sorted i j d below within (ap not (sym (of j within)) ∙ later)
 
 -- and that search ends where one by whole keys does
 pub point_in : {X : Type 0} (key_of : X → Key) (cut : Cut) (shared : Shared) (xs : List X) (at : ℕ) → at ≤ length xs
     → AllByRecursion (λ x. cut_shares cut shared (key_of x) ≡ true) xs
-    → IsPartitionPoint (λ x. not (keeps_in cut shared (key_of x)) ≡ true) (λ x. not (keeps_in cut shared (key_of x)) ≡ false) xs at
+    → IsPartitionPoint (λ x. not (keeps_in cut shared (key_of x)) ≡ true)
+    (λ x. not (keeps_in cut shared (key_of x)) ≡ false) xs at
     → IsPartitionPoint (λ x. not (keeps cut (key_of x)) ≡ true) (λ x. not (keeps cut (key_of x)) ≡ false) xs at
 point_in {X} key_of cut shared xs at within share point =
-    let of : (k : ℕ) (d : X) → k < length xs → keeps_in cut shared (key_of (get_or xs k d)) ≡ keeps cut (key_of (get_or xs k d)) =
-    λ k d inside. kept_in cut shared (key_of (get_or xs k d)) (holds_at (λ x. cut_shares cut shared (key_of x) ≡ true) xs k d inside share) in (
+    let of : (k : ℕ) (d : X) → k < length xs
+    → keeps_in cut shared (key_of (get_or xs k d)) ≡ keeps cut (key_of (get_or xs k d)) =
+    λ k d inside. kept_in cut shared (key_of (get_or xs k d))
+    (holds_at (λ x. cut_shares cut shared (key_of x) ≡ true) xs k d inside share) in (
       λ k d low high. ap not (sym (of k d (omega (arith, high, within)))) ∙ point.0 k d low high,
       λ k d low high. ap not (sym (of k d high)) ∙ point.1 k d low high,
     )
 
 -- where the last row isn't behind a cut, by what it doesn't share, none is
-pub none_in : (cut : Cut) (shared : Shared) (rows : Rows) (row : Key × Value) → AreSorted rows → AllShare cut shared rows
+pub none_in : (cut : Cut) (shared : Shared) (rows : Rows) (row : Key × Value) → AreSorted rows
+    → AllShare cut shared rows
     → Some row ≡ slice_get rows (length rows - 1) → keeps_in cut shared row.0 ≡ false → rows_behind cut rows ≡ []
 none_in cut shared [] row s h is k = refl
 none_in cut shared (first ∷ rows) row s h is k =
@@ -124,7 +140,8 @@ none_in cut shared (first ∷ rows) row s h is k =
     get_or_from_slice_get (first ∷ rows) (length rows) row row (sym (is ∙ ap (slice_get (first ∷ rows)) place)) in
     let share : cut_shares cut shared row.0 ≡ true =
     rw there at
-    (holds_at (λ (one : Key × Value). cut_shares cut shared one.0 ≡ true) (first ∷ rows) (length rows) row (omega arith) h) in
+    (holds_at (λ (one : Key × Value). cut_shares cut shared one.0 ≡ true) (first ∷ rows) (length rows)
+    row (omega arith) h) in
     none_behind cut (first ∷ rows) row s is (sym (kept_in cut shared row.0 share) ∙ k)
 
 -- ---- rows in blocks
@@ -176,7 +193,8 @@ rows_between cut shared a b (row ∷ rows) past before one other =
 
 -- so what the first keys of a block and of the next have, the rows of the block have
 block_between : (cut : Cut) (shared : Shared) (slot next : Placed) (slots : List Placed)
-    → AllBegin (slot ∷ next ∷ slots) → AreSorted (joined (slot ∷ next ∷ slots)) → cut_shares cut shared slot.first ≡ true
+    → AllBegin (slot ∷ next ∷ slots) → AreSorted (joined (slot ∷ next ∷ slots))
+    → cut_shares cut shared slot.first ≡ true
     → cut_shares cut shared next.first ≡ true → AllShare cut shared slot.rows
 block_between cut shared slot next slots b s one other =
     let first : Key × Value = (slot.first, b.0.value) in

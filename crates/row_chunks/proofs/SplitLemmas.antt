@@ -22,63 +22,81 @@ use Rattle.row_chunks.specs.Split.{changes_before, changes_behind, later_changes
 use Rattle.row_chunks.proofs.CutLemmas.{keeps_later, kept_at_point, passed_at_point}
 
 -- changes that are all before a cut
-before_all : (cut : Cut) (changes : Changes) → AllByRecursion (λ change. keeps cut change.0 ≡ false) changes → changes_before cut changes ≡ changes
+before_all : (cut : Cut) (changes : Changes) → AllByRecursion (λ change. keeps cut change.0 ≡ false) changes
+    → changes_before cut changes ≡ changes
 before_all cut [] h = refl
 before_all cut (change ∷ changes) h = rw h.0 (ap (λ (more : Changes). change ∷ more) (before_all cut changes h.1))
 
-behind_none : (cut : Cut) (changes : Changes) → AllByRecursion (λ change. keeps cut change.0 ≡ false) changes → changes_behind cut changes ≡ []
+behind_none : (cut : Cut) (changes : Changes) → AllByRecursion (λ change. keeps cut change.0 ≡ false) changes
+    → changes_behind cut changes ≡ []
 behind_none cut [] h = refl
 behind_none cut (change ∷ changes) h = rw h.0 (behind_none cut changes h.1)
 
 -- changes that are all behind it
-behind_all : (cut : Cut) (changes : Changes) → AllByRecursion (λ change. keeps cut change.0 ≡ true) changes → changes_behind cut changes ≡ changes
+behind_all : (cut : Cut) (changes : Changes) → AllByRecursion (λ change. keeps cut change.0 ≡ true) changes
+    → changes_behind cut changes ≡ changes
 behind_all cut [] h = refl
 behind_all cut (change ∷ changes) h = rw h.0 (ap (λ (more : Changes). change ∷ more) (behind_all cut changes h.1))
 
-before_none : (cut : Cut) (changes : Changes) → AllByRecursion (λ change. keeps cut change.0 ≡ true) changes → changes_before cut changes ≡ []
+before_none : (cut : Cut) (changes : Changes) → AllByRecursion (λ change. keeps cut change.0 ≡ true) changes
+    → changes_before cut changes ≡ []
 before_none cut [] h = refl
 before_none cut (change ∷ changes) h = rw h.0 (before_none cut changes h.1)
 
 -- at the place of a cut those before it end
 pub take_at_cut : (cut : Cut) (changes : Changes) (at : ℕ)
-    → IsPartitionPoint (λ change. not (keeps cut change.0) ≡ true) (λ change. not (keeps cut change.0) ≡ false) changes at → take at changes ≡ changes_before cut changes
+    → IsPartitionPoint (λ change. not (keeps cut change.0) ≡ true) (λ change. not (keeps cut change.0) ≡ false) changes
+    at → take at changes ≡ changes_before cut changes
 take_at_cut cut changes at point =
     sym
     (ap (λ all. changes_before cut all) (sym (take-append-drop at changes))
     ∙ filter-append (λ change. not (keeps cut change.0)) (take at changes) (drop at changes)
-    ∙ rw
-    (before_all cut (take at changes) (passed_at_point (λ (change : Key × Option Value). change.0) cut changes at point), before_none cut (drop at changes) (kept_at_point (λ (change : Key × Option Value). change.0) cut changes at point))
+    ∙ rw (
+      before_all cut (take at changes) (passed_at_point (λ (change : Key × Option Value). change.0) cut changes at
+          point),
+      before_none cut (drop at changes) (kept_at_point (λ (change : Key × Option Value). change.0) cut
+          changes at point),
+    )
     (append-nil (take at changes)))
 
 -- and those behind it begin
 pub drop_at_cut : (cut : Cut) (changes : Changes) (at : ℕ)
-    → IsPartitionPoint (λ change. not (keeps cut change.0) ≡ true) (λ change. not (keeps cut change.0) ≡ false) changes at → drop at changes ≡ changes_behind cut changes
+    → IsPartitionPoint (λ change. not (keeps cut change.0) ≡ true) (λ change. not (keeps cut change.0) ≡ false) changes
+    at → drop at changes ≡ changes_behind cut changes
 drop_at_cut cut changes at point =
     sym
     (ap (λ all. changes_behind cut all) (sym (take-append-drop at changes))
     ∙ filter-append (λ change. keeps cut change.0) (take at changes) (drop at changes)
-    ∙ rw
-    (behind_none cut (take at changes) (passed_at_point (λ (change : Key × Option Value). change.0) cut changes at point), behind_all cut (drop at changes) (kept_at_point (λ (change : Key × Option Value). change.0) cut changes at point))
+    ∙ rw (
+      behind_none cut (take at changes) (passed_at_point (λ (change : Key × Option Value). change.0) cut changes at
+          point),
+      behind_all cut (drop at changes) (kept_at_point (λ (change : Key × Option Value). change.0) cut
+          changes at point),
+    )
     refl)
 
 -- where the first change is behind a cut, all are
-all_kept : (cut : Cut) (first : Key × Option Value) (changes : Changes) → AreOrdered (first ∷ changes) → keeps cut first.0 ≡ true
+all_kept : (cut : Cut) (first : Key × Option Value) (changes : Changes) → AreOrdered (first ∷ changes)
+    → keeps cut first.0 ≡ true
     → AllByRecursion (λ change. keeps cut change.0 ≡ true) (first ∷ changes)
 all_kept cut first changes o k = (k, by changes (sorted_head key_cmp first.0 (keys_of changes) o))
   where
-    by : (more : Changes) → AllByRecursion (λ other. key_cmp first.0 other ≡ Less) (keys_of more) → AllByRecursion (λ change. keeps cut change.0 ≡ true) more
+    by : (more : Changes) → AllByRecursion (λ other. key_cmp first.0 other ≡ Less) (keys_of more)
+        → AllByRecursion (λ change. keeps cut change.0 ≡ true) more
     by [] h = tt
     by (change ∷ more) h = (keeps_later cut first.0 change.0 h.0 k, by more h.1)
 
 -- so none is before it
-pub before_from_first : (cut : Cut) (first : Key × Option Value) (changes : Changes) → AreOrdered changes → slice_get changes 0 ≡ Some first → keeps cut first.0 ≡ true
+pub before_from_first : (cut : Cut) (first : Key × Option Value) (changes : Changes) → AreOrdered changes
+    → slice_get changes 0 ≡ Some first → keeps cut first.0 ≡ true
     → changes_before cut changes ≡ []
 before_from_first cut first [] o is k = refl
 before_from_first cut first (change ∷ changes) o is k =
     let same : change ≡ first = cc in
     before_none cut (change ∷ changes) (all_kept cut change changes o (rw same k))
 
-pub behind_from_first : (cut : Cut) (first : Key × Option Value) (changes : Changes) → AreOrdered changes → slice_get changes 0 ≡ Some first → keeps cut first.0 ≡ true
+pub behind_from_first : (cut : Cut) (first : Key × Option Value) (changes : Changes) → AreOrdered changes
+    → slice_get changes 0 ≡ Some first → keeps cut first.0 ≡ true
     → changes_behind cut changes ≡ changes
 behind_from_first cut first [] o is k = refl
 behind_from_first cut first (change ∷ changes) o is k =
@@ -86,7 +104,8 @@ behind_from_first cut first (change ∷ changes) o is k =
     behind_all cut (change ∷ changes) (all_kept cut change changes o (rw same k))
 
 -- the keys of changes that pass a test of keys
-keys_of-filter : (p : Key → Bool) (changes : Changes) → keys_of (filter (λ change. p change.0) changes) ≡ filter p (keys_of changes)
+keys_of-filter : (p : Key → Bool) (changes : Changes)
+    → keys_of (filter (λ change. p change.0) changes) ≡ filter p (keys_of changes)
 keys_of-filter p [] = refl
 keys_of-filter p (change ∷ changes) = by (keys_of-filter p changes) (p change.0) refl
   where
@@ -96,16 +115,19 @@ keys_of-filter p (change ∷ changes) = by (keys_of-filter p changes) (p change.
     by below false e = rw e below
 
 -- they are in order
-ordered_filter : (p : Key → Bool) (changes : Changes) → AreOrdered changes → AreOrdered (filter (λ change. p change.0) changes)
+ordered_filter : (p : Key → Bool) (changes : Changes) → AreOrdered changes
+    → AreOrdered (filter (λ change. p change.0) changes)
 ordered_filter p changes o = rw (keys_of-filter p changes) (IsStrictlySortedBy-filter key_cmp p (keys_of changes) o)
 
 -- so are a block's own changes
-pub ordered_own : (slots : List Placed) (changes : Changes) → AreOrdered changes → AreOrdered (own_changes slots changes)
+pub ordered_own : (slots : List Placed) (changes : Changes) → AreOrdered changes
+    → AreOrdered (own_changes slots changes)
 ordered_own [] changes o = o
 ordered_own (slot ∷ slots) changes o = ordered_filter (λ key. is_gt (key_cmp slot.first key)) changes o
 
 -- and those of the blocks behind it
-pub ordered_later : (slots : List Placed) (changes : Changes) → AreOrdered changes → AreOrdered (later_changes slots changes)
+pub ordered_later : (slots : List Placed) (changes : Changes) → AreOrdered changes
+    → AreOrdered (later_changes slots changes)
 unfolding IsStrictlySortedBy
 ordered_later [] changes o = tt
 ordered_later (slot ∷ slots) changes o = ordered_filter (λ key. not (is_gt (key_cmp slot.first key))) changes o
@@ -116,17 +138,22 @@ not_not false = refl
 
 -- what isn't from a key on is before it
 before_key : (low : Key) (changes : Changes)
-    → filter (λ change. not (not (is_gt (key_cmp low change.0)))) changes ≡ filter (λ change. is_gt (key_cmp low change.0)) changes
-before_key low changes = ap (λ (test : Key × Option Value → Bool). filter test changes) (fun_ext (λ change. not_not (is_gt (key_cmp low change.0))))
+    → filter (λ change. not (not (is_gt (key_cmp low change.0)))) changes
+    ≡ filter (λ change. is_gt (key_cmp low change.0)) changes
+before_key low changes = ap (λ (test : Key × Option Value → Bool). filter test changes)
+    (fun_ext (λ change. not_not (is_gt (key_cmp low change.0))))
 
 -- the changes before the first key of the next block are the block's own
-pub own_by_first : (next : Placed) (key : Key) (later : List Placed) (changes : Changes) → slice_get later 0 ≡ Some next → key ≡ next.first
+pub own_by_first : (next : Placed) (key : Key) (later : List Placed) (changes : Changes) → slice_get later 0 ≡ Some next
+    → key ≡ next.first
     → filter (λ change. not (not (is_gt (key_cmp key change.0)))) changes ≡ own_changes later changes
 own_by_first next key [] changes is at = cc
-own_by_first next key (slot ∷ later) changes is at = let same : slot ≡ next = cc in rw (same, at) (before_key next.first changes)
+own_by_first next key (slot ∷ later) changes is at = let same : slot ≡ next = cc in
+    rw (same, at) (before_key next.first changes)
 
 -- and those from there on fall to the blocks behind
-pub later_by_first : (next : Placed) (key : Key) (later : List Placed) (changes : Changes) → slice_get later 0 ≡ Some next → key ≡ next.first
+pub later_by_first : (next : Placed) (key : Key) (later : List Placed) (changes : Changes)
+    → slice_get later 0 ≡ Some next → key ≡ next.first
     → filter (λ change. not (is_gt (key_cmp key change.0))) changes ≡ later_changes later changes
 later_by_first next key [] changes is at = cc
 later_by_first next key (slot ∷ later) changes is at = let same : slot ≡ next = cc in rw (same, at) refl

@@ -46,7 +46,7 @@ impl<B: Block> Block for Blocks<B> {
 
     ghost most = { 64 * B.most };
 
-    const FEW_ROWS: usize = 4096;
+    const FEW_ROWS: usize = 2048;
 
     fn empty(alloc: Global) -> Blocks<B> {
         Blocks {

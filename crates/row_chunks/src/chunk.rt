@@ -17,7 +17,7 @@ use std::alloc::{AllocError, Global};
 use std::marker::Model;
 
 /// How many rows a chunk of a list has at most.
-const MOST_ROWS: usize = 256;
+const MOST_ROWS: usize = 128;
 
 /// Rows that lie together. A contract sees the rows.
 #[derive(Drop)]
@@ -36,9 +36,9 @@ impl Model for Chunk {
 impl Block for Chunk {
     ghost rows = { λ chunk. chunk };
 
-    ghost most = { 256 };
+    ghost most = { 128 };
 
-    const FEW_ROWS: usize = 64;
+    const FEW_ROWS: usize = 32;
 
     fn empty(alloc: Global) -> Chunk {
         Chunk {

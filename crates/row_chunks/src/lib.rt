@@ -1,4 +1,4 @@
-//! Rows that versions share: a store of rows in chunks of 1 to 256, and of chunks in pages of 1 to 64. A version that
+//! Rows that versions share: a store of rows in chunks of 1 to 128, and of chunks in pages of 1 to 64. A version that
 //! follows another makes anew only the chunks and pages that a write touches, and shares the rest.
 //!
 //! ```text
@@ -6,8 +6,8 @@
 //! rows before  0                                             15988
 //! page         |                                             |
 //! first key    Epoch           Cost metro routingcost a k    Cost metro routingcost m k    Prop metro pid:k country
-//! rows before  0               256                           0                             215
-//! chunk        [256 rows]  ..  [251 rows]  ..                [215 rows]  ..                [90 rows]
+//! rows before  0               128                           0                             107
+//! chunk        [128 rows]  ..  [125 rows]  ..                [107 rows]  ..                [45 rows]
 //! ```
 //!
 //! First keys stand beside the pointers, so a search follows one pointer a level, and what is passed over isn't read.

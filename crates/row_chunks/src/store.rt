@@ -15,7 +15,7 @@ use std::marker::Model;
 /// Chunks that are shared together: 1 to 64 of them.
 type Page = Blocks<Chunk>;
 
-/// Rows in chunks that versions share: 1 to 256 rows in each. A contract sees them as one list, in the order of their
+/// Rows in chunks that versions share: 1 to 128 rows in each. A contract sees them as one list, in the order of their
 /// keys.
 #[derive(Drop)]
 pub struct Chunks {
@@ -89,8 +89,8 @@ impl RowStore for Chunks {
     /// One pass over the pages and the writes, sorted by their keys, over the chunks of each page that a write touches,
     /// and over the rows of each chunk that one touches: p pages, c such chunks, r such rows and w writes cost
     /// p + c + r + w log w. Any other page or chunk is shared, and nothing of it is read. Where a touched chunk is left
-    /// with less than 64 rows, the next of its page is touched too, and joined with it; so is the page behind one that
-    /// is left with less than 4,096.
+    /// with less than 32 rows, the next of its page is touched too, and joined with it; so is the page behind one that
+    /// is left with less than 2,048.
     fn with(&self, alloc: Global, writes: &[Write]) -> Result<Chunks, AllocError> {
         let changes = changes_of(alloc, writes)?;
         Ok(Chunks {

@@ -9,7 +9,8 @@ overflow_sub-result g c =
     let within : c.args.at < length c.args.slots.now = search rules in
     let place : c.rows_before.result ≡ c.in-Some.slot.now.before = c.rows_before.ensures in
     let sum : c.in-Some.slot.now.before + length (joined (drop c.args.at c.args.slots.now)) ≡ c.args.total =
-    counted_from c.args.total c.args.slots.now c.args.at c.in-Some.slot.now c.requires within c.in-Some.ensures.lookup.1 in
+    counted_from c.args.total c.args.slots.now c.args.at c.in-Some.slot.now c.requires within
+    c.in-Some.ensures.lookup.1 in
     omega arith
 
 pub returns-in-Some : goal.returns-in-Some
@@ -17,5 +18,6 @@ returns-in-Some g c =
     let within : c.args.at < length c.args.slots.now = search rules in
     let place : c.rows_before.result ≡ c.in-Some.slot.now.before = c.rows_before.ensures in
     let sum : c.in-Some.slot.now.before + length (joined (drop c.args.at c.args.slots.now)) ≡ c.args.total =
-    counted_from c.args.total c.args.slots.now c.args.at c.in-Some.slot.now c.requires within c.in-Some.ensures.lookup.1 in
+    counted_from c.args.total c.args.slots.now c.args.at c.in-Some.slot.now c.requires within
+    c.in-Some.ensures.lookup.1 in
     omega arith

@@ -17,6 +17,8 @@ returns g c =
     let at = c.partition_point.result in
     passed_from_point cut slots at c.partition_point.ensures.bound
     (point_in (λ (slot : Placed). slot.first) cut shared slots at c.partition_point.ensures.bound share
-    (IsPartitionPoint-from_clause (λ slot. not (keeps_in cut shared slot.first)) slots at c.partition_point.ensures.partitioned
-    (partitioned_in (λ (slot : Placed). slot.first) cut shared slots (sorted_firsts slots c.requires.begin c.requires.sorted) share)
+    (IsPartitionPoint-from_clause (λ slot. not (keeps_in cut shared slot.first)) slots at
+    c.partition_point.ensures.partitioned
+    (partitioned_in (λ (slot : Placed). slot.first) cut shared
+    slots (sorted_firsts slots c.requires.begin c.requires.sorted) share)
     (λ a r f k. search rules)))

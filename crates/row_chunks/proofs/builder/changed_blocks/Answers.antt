@@ -17,12 +17,15 @@ with_block-requires-clause-sorted g c =
     let at = c.loop-at.at in
     let slot = c.index-slots-at.result in
     let step : drop at slots ≡ slot ∷ drop (at + 1) slots =
-    drop_more slots at slot c.loop-at-test.true ∙ ap (λ (one : Placed). one ∷ drop (at + 1) slots) (sym c.index-slots-at.is) in
-    let sorted : AreSorted (slot.rows ++ joined (drop (at + 1) slots)) = rw step at (sorted_drop slots at c.requires.sorted) in
+    drop_more slots at slot c.loop-at-test.true ∙ ap (λ (one : Placed). one ∷ drop (at + 1) slots)
+    (sym c.index-slots-at.is) in
+    let sorted : AreSorted (slot.rows ++ joined (drop (at + 1) slots)) =
+    rw step at (sorted_drop slots at c.requires.sorted) in
     sorted_left slot.rows (joined (drop (at + 1) slots)) sorted
 
 pub with_block-requires-clause-ordered : goal.with_block-requires-clause-ordered
-with_block-requires-clause-ordered g c = rw c.split_changes.ensures.own (ordered_own _ c.loop-at.rest.now c.loop-at.invariant.ordered)
+with_block-requires-clause-ordered g c =
+    rw c.split_changes.ensures.own (ordered_own _ c.loop-at.rest.now c.loop-at.invariant.ordered)
 
 pub loop-at-preserved : goal.loop-at-preserved
 loop-at-preserved g c =
@@ -33,11 +36,14 @@ loop-at-preserved g c =
     let later = drop (l.at + 1) slots in
     let step : drop l.at slots ≡ slot ∷ later =
     drop_more slots l.at slot c.loop-at-test.true ∙ ap (λ (one : Placed). one ∷ later) (sym c.index-slots-at.is) in
-    let own : c.split_changes.result.0.now ≡ own_changes later rest = rw (take_rest slots (l.at + 1)) at c.split_changes.ensures.own in
-    let others : c.split_changes.result.1.now ≡ later_changes later rest = rw (take_rest slots (l.at + 1)) at c.split_changes.ensures.rest in
+    let own : c.split_changes.result.0.now ≡ own_changes later rest =
+    rw (take_rest slots (l.at + 1)) at c.split_changes.ensures.own in
+    let others : c.split_changes.result.1.now ≡ later_changes later rest =
+    rw (take_rest slots (l.at + 1)) at c.split_changes.ensures.rest in
     record {
       whole =
           rw (c.in_ok-builder.ensures, own, others)
-          (changed_more l.builder (c.args.done ++ changed (joined slots) c.args.changes.now) slots l.at slot rest c.requires.begin c.requires.sorted step l.invariant.whole);
+          (changed_more l.builder (c.args.done ++ changed (joined slots) c.args.changes.now) slots l.at slot rest
+          c.requires.begin c.requires.sorted step l.invariant.whole);
       ordered = rw others (ordered_later later rest l.invariant.ordered);
     }

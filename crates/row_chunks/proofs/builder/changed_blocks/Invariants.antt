@@ -7,6 +7,7 @@ use Rattle.row_chunks.proofs.builder.changed_blocks.Given as goal
 abbrev pub invariant-loop-at : goal.invariant-loop-at
 invariant-loop-at g l =
     record {
-      whole : l.builder ++ changed (joined (drop l.at l.slots)) l.rest ≡ l.fn.done ++ changed (joined l.slots) l.fn.changes;
+      whole : l.builder ++ changed (joined (drop l.at l.slots)) l.rest
+          ≡ l.fn.done ++ changed (joined l.slots) l.fn.changes;
       ordered : AreOrdered l.rest;
     }

@@ -10,14 +10,17 @@ pub returns-in_default : goal.returns-in_default
 returns-in_default c = λ _. rising_none c.args.writes.now (search rules)
 
 pub loop-write-init : goal.loop-write-init
-loop-write-init c = λ o. rising_begun c.args.writes.now c.in-Some.first.now c.in-Some.rest.now c.in-Some.ensures.cases.0 o
+loop-write-init c = λ o. rising_begun c.args.writes.now c.in-Some.first.now c.in-Some.rest.now
+    c.in-Some.ensures.cases.0 o
 
 pub loop-write-preserved : goal.loop-write-preserved
 loop-write-preserved c =
     let l = c.loop-write in
     let write = c.write-item.result in
     let less : is_lt (key_cmp l.last.now.key write.key) ≡ true = search rules in
-    λ o. l.invariant (rising_step l.last.now write c.in-Some.rest.now l.write-index c.loop-write-test.true c.write-item.is less o)
+    λ o. l.invariant (rising_step l.last.now write c.in-Some.rest.now l.write-index c.loop-write-test.true
+    c.write-item.is less o)
 
 pub returns : goal.returns
-returns c = λ _. c.loop-write.invariant (rising_ended c.loop-write.last.now c.in-Some.rest.now c.loop-write.write-index (search (rules, c.loop-write-test.false)))
+returns c = λ _. c.loop-write.invariant (rising_ended c.loop-write.last.now c.in-Some.rest.now c.loop-write.write-index
+    (search (rules, c.loop-write-test.false)))

@@ -8,4 +8,5 @@ use Rattle.row_chunks.proofs.changes.changes_of.Goals as goal
 pub returns-then-are_rising-clause-does : goal.returns-then-are_rising-clause-does
 returns-then-are_rising-clause-does c =
     IfOk-weaker c.made_of.result _ _
-    (λ changes is. subst (λ (all : Changes). DoAs c.args.writes.now all) (sym is) (made_do c.args.writes.now)) c.made_of.ensures
+    (λ changes is. subst (λ (all : Changes). DoAs c.args.writes.now all) (sym is) (made_do c.args.writes.now))
+    c.made_of.ensures

@@ -25,7 +25,9 @@ returns-clause-before c =
     let cut = c.args.cut.now in
     c.split_at.ensures.front
     ∙ take_at_cut cut changes c.partition_point.result
-    (IsPartitionPoint-from_clause (λ change. not (keeps cut change.0)) changes c.partition_point.result c.partition_point.ensures.partitioned (cut_partitioned (λ change. change.0) cut changes c.requires) (λ a r f k. search rules))
+    (IsPartitionPoint-from_clause (λ change. not (keeps cut change.0)) changes c.partition_point.result
+    c.partition_point.ensures.partitioned (cut_partitioned (λ change. change.0) cut changes c.requires)
+    (λ a r f k. search rules))
 
 pub returns-clause-behind : goal.returns-clause-behind
 returns-clause-behind c =
@@ -33,4 +35,6 @@ returns-clause-behind c =
     let cut = c.args.cut.now in
     c.split_at.ensures.back
     ∙ drop_at_cut cut changes c.partition_point.result
-    (IsPartitionPoint-from_clause (λ change. not (keeps cut change.0)) changes c.partition_point.result c.partition_point.ensures.partitioned (cut_partitioned (λ change. change.0) cut changes c.requires) (λ a r f k. search rules))
+    (IsPartitionPoint-from_clause (λ change. not (keeps cut change.0)) changes c.partition_point.result
+    c.partition_point.ensures.partitioned (cut_partitioned (λ change. change.0) cut changes c.requires)
+    (λ a r f k. search rules))

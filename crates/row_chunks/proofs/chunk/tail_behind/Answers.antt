@@ -19,5 +19,7 @@ returns c =
     take_rest rows at
     ∙ drop_at_cut cut rows at
     (point_in (λ (row : Key × Value). row.0) cut shared rows at c.partition_point-at.ensures.bound c.requires.shared
-    (IsPartitionPoint-from_clause (λ row. not (keeps_in cut shared row.0)) rows at c.partition_point-at.ensures.partitioned
-    (partitioned_in (λ (row : Key × Value). row.0) cut shared rows c.requires.sorted c.requires.shared) (λ a r f k. search rules)))
+    (IsPartitionPoint-from_clause (λ row. not (keeps_in cut shared row.0)) rows at
+    c.partition_point-at.ensures.partitioned
+    (partitioned_in (λ (row : Key × Value). row.0) cut shared rows c.requires.sorted c.requires.shared)
+    (λ a r f k. search rules)))

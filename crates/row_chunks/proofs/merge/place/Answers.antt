@@ -27,5 +27,7 @@ returns-in-Equal-clause-place c =
 
 pub returns-in-Greater-clause-place : goal.returns-in-Greater-clause-place
 returns-in-Greater-clause-place c =
-    place_from_search c.args.rows.now c.args.key.now c.binary_search_by.result c.requires c.binary_search_by.ensures.bound
-    (c.binary_search_by.ensures.position (λ row. key_cmp row.0 c.args.key.now) (always_returns_same _ _ _ (λ a r f k. search (rules, of_calls, derived_key_cmp))))
+    place_from_search c.args.rows.now c.args.key.now c.binary_search_by.result c.requires
+    c.binary_search_by.ensures.bound
+    (c.binary_search_by.ensures.position (λ row. key_cmp row.0 c.args.key.now)
+    (always_returns_same _ _ _ (λ a r f k. search (rules, of_calls, derived_key_cmp))))

@@ -21,15 +21,19 @@ loop-change-preserved c =
     let change = c.change-item.result in
     let left = drop (l.change-index + 1) c.args.changes.now in
     let step : drop l.change-index c.args.changes.now ≡ change ∷ left =
-    drop_more c.args.changes.now l.change-index change c.loop-change-test.true ∙ ap (λ (one : Key × Option Value). one ∷ left) (sym c.change-item.is) in
-    let ordered : AreOrdered (change ∷ left) = subst (λ (changes : Changes). AreOrdered changes) step l.invariant.ordered in
+    drop_more c.args.changes.now l.change-index change c.loop-change-test.true
+    ∙ ap (λ (one : Key × Option Value). one ∷ left) (sym c.change-item.is) in
+    let ordered : AreOrdered (change ∷ left) =
+    subst (λ (changes : Changes). AreOrdered changes) step l.invariant.ordered in
     let passed : c.in_ok-all.all.items ≡ l.all.items ++ rows_before rows change.0 =
     c.in_ok-all.ensures ∙ ap (λ (more : Rows). l.all.items ++ more) c.split_round.ensures.before in
     let put : c.in_ok-all-2.all.items ≡ (l.all.items ++ rows_before rows change.0) ++ own_row change.0 change.1 =
     c.in_ok-all-2.ensures ∙ ap (λ (more : Rows). more ++ own_row change.0 change.1) passed in
     let past : c.split_round.result.1.now ≡ rows_past rows change.0 = c.split_round.ensures.past in
     record {
-      whole = rw (put, past) (merged_more l.all.items rows (c.args.done.items ++ changed c.args.rows.now c.args.changes.now) change.0 change.1 left l.invariant.sorted ordered (rw step at l.invariant.whole));
+      whole = rw (put, past) (merged_more l.all.items
+          rows (c.args.done.items ++ changed c.args.rows.now c.args.changes.now) change.0 change.1 left
+          l.invariant.sorted ordered (rw step at l.invariant.whole));
       sorted = rw past (sorted_rows_past rows change.0 l.invariant.sorted);
       ordered = sorted_tail key_cmp change.0 (keys_of left) ordered;
     }

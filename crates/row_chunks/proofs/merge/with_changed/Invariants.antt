@@ -7,7 +7,8 @@ use Rattle.row_chunks.proofs.merge.with_changed.Given as goal
 abbrev pub invariant-loop-change : goal.invariant-loop-change
 invariant-loop-change l =
     record {
-      whole : l.all.items ++ changed l.rest (drop l.change-index l.changes) ≡ l.fn.done.items ++ changed l.fn.rows l.fn.changes;
+      whole : l.all.items ++ changed l.rest (drop l.change-index l.changes)
+          ≡ l.fn.done.items ++ changed l.fn.rows l.fn.changes;
       sorted : AreSorted l.rest;
       ordered : AreOrdered (drop l.change-index l.changes);
     }

@@ -6,7 +6,8 @@ use Rattle.row_chunks.proofs.pieces.pieces.Given as goal
 abbrev pub invariant-loop-item : goal.invariant-loop-item
 invariant-loop-item g l =
     record {
-      whole : (flat_map (λ piece. piece.items) l.all.items ++ l.piece.items) ++ l.item-iterator.rest.items ≡ l.fn.items.items;
+      whole : (flat_map (λ piece. piece.items) l.all.items ++ l.piece.items) ++ l.item-iterator.rest.items
+          ≡ l.fn.items.items;
       within : length l.piece.items ≤ l.size;
       small : AllByRecursion (λ piece. length piece.items ≤ l.size) l.all.items;
     }

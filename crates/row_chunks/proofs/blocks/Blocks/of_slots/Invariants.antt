@@ -7,6 +7,7 @@ abbrev pub invariant-loop-slot : goal.invariant-loop-slot
 invariant-loop-slot g l =
     record {
       whole : l.blocks ++ joined l.slot-iterator.rest.items ≡ joined l.fn.slots.items;
-      room : length l.blocks + length l.slot-iterator.rest.items * g.B.Block.most ≤ length l.fn.slots.items * g.B.Block.most;
+      room : length l.blocks + length l.slot-iterator.rest.items * g.B.Block.most ≤ length l.fn.slots.items
+          * g.B.Block.most;
       begin : AllBegin l.slot-iterator.rest.items;
     }

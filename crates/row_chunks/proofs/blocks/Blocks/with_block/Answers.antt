@@ -16,4 +16,5 @@ pub with_slot-requires : goal.with_slot-requires
 with_slot-requires g c =
     let same : arc_value c.in_ok-new.field-0 ≡ c.args.block = search rules in
     let first : first_key (g.B.Block.rows c.args.block) ≡ Some c.in-Some.first.now = search rules in
-    rw (c.new-2.ensures, same, c.in_ok-key.ensures) (begins_at_first (g.B.Block.rows c.args.block) c.in-Some.first.now first)
+    rw (c.new-2.ensures, same, c.in_ok-key.ensures)
+    (begins_at_first (g.B.Block.rows c.args.block) c.in-Some.first.now first)

@@ -6,6 +6,7 @@ use Rattle.row_chunks.proofs.blocks.Blocks.with_blocks.Given as goal
 abbrev pub invariant-loop-block : goal.invariant-loop-block
 invariant-loop-block g l =
     record {
-      whole : l.all ++ flat_map g.B.Block.rows l.block-iterator.rest.items ≡ l.fn.self ++ flat_map g.B.Block.rows l.fn.blocks.items;
+      whole : l.all ++ flat_map g.B.Block.rows l.block-iterator.rest.items
+          ≡ l.fn.self ++ flat_map g.B.Block.rows l.fn.blocks.items;
       small : AllByRecursion (λ block. length (g.B.Block.rows block) ≤ g.B.Block.most) l.block-iterator.rest.items;
     }

@@ -6,7 +6,8 @@ use Rattle.row_chunks.proofs.chunk.ChunkBlock.divided.Given as goal
 abbrev pub invariant-loop-piece : goal.invariant-loop-piece
 invariant-loop-piece l =
     record {
-      whole : flat_map (λ chunk. chunk) l.chunks.items ++ flat_map (λ piece. piece.items) l.piece-iterator.rest.items ≡ l.fn.self;
-      small : AllByRecursion (λ chunk. length chunk ≤ 256) l.chunks.items;
-      within : AllByRecursion (λ piece. length piece.items ≤ 256) l.piece-iterator.rest.items;
+      whole : flat_map (λ chunk. chunk) l.chunks.items ++ flat_map (λ piece. piece.items) l.piece-iterator.rest.items
+          ≡ l.fn.self;
+      small : AllByRecursion (λ chunk. length chunk ≤ 128) l.chunks.items;
+      within : AllByRecursion (λ piece. length piece.items ≤ 128) l.piece-iterator.rest.items;
     }

@@ -10,8 +10,10 @@ overflow_sub-result c =
     let rows = c.self.inside.pages in
     let span = c.args.span.now in
     let from : c.count_behind-from.result ≡ length (rows_from_span rows span) = c.count_behind-from.ensures in
-    let past : c.count_behind-past.result ≡ length (filter (λ row. is_lt (span_cmp span row.0)) rows) = c.count_behind-past.ensures in
-    let sum : length (rows_from_span rows span) ≡ count_in rows span + length (filter (λ row. is_lt (span_cmp span row.0)) rows) = span_counts span rows in
+    let past : c.count_behind-past.result ≡ length (filter (λ row. is_lt (span_cmp span row.0)) rows) =
+    c.count_behind-past.ensures in
+    let sum : length (rows_from_span rows span)
+    ≡ count_in rows span + length (filter (λ row. is_lt (span_cmp span row.0)) rows) = span_counts span rows in
     omega arith
 
 pub returns-clause-count : goal.returns-clause-count
@@ -19,6 +21,8 @@ returns-clause-count c =
     let rows = c.self.inside.pages in
     let span = c.args.span.now in
     let from : c.count_behind-from.result ≡ length (rows_from_span rows span) = c.count_behind-from.ensures in
-    let past : c.count_behind-past.result ≡ length (filter (λ row. is_lt (span_cmp span row.0)) rows) = c.count_behind-past.ensures in
-    let sum : length (rows_from_span rows span) ≡ count_in rows span + length (filter (λ row. is_lt (span_cmp span row.0)) rows) = span_counts span rows in
+    let past : c.count_behind-past.result ≡ length (filter (λ row. is_lt (span_cmp span row.0)) rows) =
+    c.count_behind-past.ensures in
+    let sum : length (rows_from_span rows span)
+    ≡ count_in rows span + length (filter (λ row. is_lt (span_cmp span row.0)) rows) = span_counts span rows in
     rw (← c.self.view_is) (omega arith)

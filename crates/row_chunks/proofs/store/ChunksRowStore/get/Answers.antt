@@ -10,7 +10,8 @@ use Rattle.row_chunks.proofs.store.ChunksRowStore.get.Goals as goal
 pub returns-in_err-row-clause-value : goal.returns-in_err-row-clause-value
 returns-in_err-row-clause-value c =
     let none : slice_get c.run_from.result.now 0 ≡ None = search rules in
-    rw c.from_residual.ensures (sym (value_of-no_run c.args.self.now c.args.key.now c.run_from.result.now c.run_from.ensures.run none))
+    rw c.from_residual.ensures (sym (value_of-no_run c.args.self.now c.args.key.now c.run_from.result.now
+    c.run_from.ensures.run none))
 
 pub returns-then-is_eq-clause-value : goal.returns-then-is_eq-clause-value
 returns-then-is_eq-clause-value c =
@@ -24,4 +25,5 @@ returns-else-is_eq-clause-value c =
     let row = c.in_ok-row.row.now in
     let first : slice_get c.run_from.result.now 0 ≡ Some row = search rules in
     let apart : is_eq (key_cmp c.args.key.now row.0) ≡ false = search (rules, derived_key_cmp) in
-    sym (value_of-other_run c.args.self.now c.args.key.now c.run_from.result.now row c.run_from.ensures.sorted c.run_from.ensures.run first apart)
+    sym (value_of-other_run c.args.self.now c.args.key.now c.run_from.result.now row c.run_from.ensures.sorted
+    c.run_from.ensures.run first apart)
