@@ -154,7 +154,8 @@ rise-costs_from ((key.Cost of kind from to, v) ∷ rows) net metric src sorted =
         → IsStrictlySortedBy name_cmp (keys_of (costs_from ((key.Cost of kind from to, v) ∷ rows) net metric src))
     by true true true e f h (value.Num n) past below =
         let behind : ArePast (key.Cost net metric src to) rows =
-        subst (λ (own : Key). ArePast own rows) (same_key net metric src to of kind from to e f h (same_name_itself to)) past in
+        subst (λ (own : Key). ArePast own rows) (same_key net metric src to of kind from to e f h (same_name_itself to))
+        past in
         rw (e, f, h) (later net metric src to rows behind, below)
     by true true true e f h value.Unit past below = rw (e, f, h) below
     by true true true e f h (value.Text text) past below = rw (e, f, h) below
@@ -167,7 +168,8 @@ rise-costs_from (row ∷ rows) net metric src sorted = rise-costs_from rows net 
 -- ---- the cost at a place
 
 -- a cost that stands under a name is what is told of it
-pub cost_to-place : (costs : Costs) (place : ℕ) (cost : Name × ℕ) (dst : Name) → IsStrictlySortedBy name_cmp (keys_of costs)
+pub cost_to-place : (costs : Costs) (place : ℕ) (cost : Name × ℕ) (dst : Name)
+    → IsStrictlySortedBy name_cmp (keys_of costs)
     → slice_get costs place ≡ Some cost → same_name cost.0 dst ≡ true → cost_to costs dst ≡ Some cost.1
 cost_to-place costs place cost dst rise there same =
     let one : cost.0 ≡ dst = one_name cost.0 dst same in

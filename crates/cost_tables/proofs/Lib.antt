@@ -1,5 +1,6 @@
 pub mod SearchLemmas
 pub mod FromLemmas
+pub mod PairLemmas
 pub mod SourceLemmas
 pub mod RenewedLemmas
 pub mod TableLemmas

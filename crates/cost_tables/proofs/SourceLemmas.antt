@@ -37,7 +37,8 @@ among-insert_key name source (first ∷ names) = by (name_cmp source first) refl
   where
     by : (o : Ordering) → name_cmp source first ≡ o
         → is_among name (insert_key name_cmp names source) ≡ (same_name name source || is_among name names)
-        → is_among name (match_ordering o (source ∷ first ∷ names) (first ∷ names) (first ∷ insert_key name_cmp names source))
+        → is_among name (match_ordering o (source ∷ first ∷ names) (first ∷ names)
+        (first ∷ insert_key name_cmp names source))
         ≡ (same_name name source || (same_name name first || is_among name names))
     by Less is rest = refl
     by Equal is rest =
@@ -71,7 +72,8 @@ last_among names (Some name) source same there =
 -- names that are there and the sources of keys that are left are all
 abbrev pub AreWith : Name → Name → List Key → List Name → List Key → Type 0
 AreWith net metric all names left =
-    (name : Name) → (is_among name names || is_among name (sources_of net metric left)) ≡ is_among name (sources_of net metric all)
+    (name : Name) → (is_among name names || is_among name (sources_of net metric left))
+    ≡ is_among name (sources_of net metric all)
 
 -- with none left the names are all
 pub with_all : (net metric : Name) (all : List Key) (names : List Name) → AreWith net metric all names []
@@ -88,7 +90,8 @@ sources_in_span net metric ((key.Cost of kind src dst, v) ∷ rows) =
     by (same_name net of) (same_name metric kind) refl refl (sources_in_span net metric rows)
   where
     by : (a b : Bool) → same_name net of ≡ a → same_name metric kind ≡ b
-        → sources_of net metric (keys_of (rows_in rows (span.CostsIn net metric))) ≡ sources_of net metric (keys_of rows)
+        → sources_of net metric (keys_of (rows_in rows (span.CostsIn net metric)))
+        ≡ sources_of net metric (keys_of rows)
         → sources_of net metric (keys_of (rows_in ((key.Cost of kind src dst, v) ∷ rows) (span.CostsIn net metric)))
         ≡ sources_of net metric (keys_of ((key.Cost of kind src dst, v) ∷ rows))
     by true true e f below = rw (e, f) (rw (e, f) (ap (λ (more : List Name). src ∷ more) below))

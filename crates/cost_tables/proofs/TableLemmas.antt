@@ -13,7 +13,8 @@ use Rattle.alto_rows.specs.Rows.{AreSorted, Rows, after, value_of}
 use Rattle.alto_rows.proofs.OrderLemmas.{name_cmp_itself, one_key}
 use Rattle.alto_rows.proofs.WriteLemmas.{NoneWrites, value_of-after-none}
 use Rattle.cost_tables.specs.Renewed.{renewed}
-use Rattle.cost_tables.specs.Tables.{IsSetOf, Name, Table, TellsCosts, cost_to, cost_told, costs_from, source_of, sources_of}
+use Rattle.cost_tables.specs.Tables.{IsSetOf, Name, Table, TellsCosts, cost_to, cost_told, costs_from, source_of}
+use Rattle.cost_tables.specs.Tables.{sources_of}
 use Rattle.cost_tables.proofs.FromLemmas.{cost_to-costs_from}
 use Rattle.cost_tables.proofs.RenewedLemmas.{InOrder, cost_told-renewed, none_in_order, tied}
 
@@ -31,7 +32,8 @@ right_false : (a b : Bool) → (a || b) ≡ false → b ≡ false
 right_false true b h = cc
 right_false false b h = h
 
-none_later : (src : Name) (first : Option Name) (names : List Name) → list_any (same_name src) (cons_option first names) ≡ false → list_any (same_name src) names ≡ false
+none_later : (src : Name) (first : Option Name) (names : List Name)
+    → list_any (same_name src) (cons_option first names) ≡ false → list_any (same_name src) names ≡ false
 none_later src None names h = h
 none_later src (Some name) names h = right_false (same_name src name) (list_any (same_name src) names) h
 
@@ -39,9 +41,13 @@ none_later src (Some name) names h = right_false (same_name src name) (list_any 
 unnamed : (net metric src dst : Name) (keys : List Key) → list_any (same_name src) (sources_of net metric keys) ≡ false
     → AllByRecursion (λ k. is_eq (key_cmp (key.Cost net metric src dst) k) ≡ false) keys
 unnamed net metric src dst [] none = tt
-unnamed net metric src dst (k ∷ keys) none = (apart (is_eq (key_cmp (key.Cost net metric src dst) k)) refl, unnamed net metric src dst keys (none_later src (source_of net metric k) (sources_of net metric keys) none))
+unnamed net metric src dst (k ∷ keys) none = (
+  apart (is_eq (key_cmp (key.Cost net metric src dst) k)) refl,
+  unnamed net metric src dst keys (none_later src (source_of net metric k) (sources_of net metric keys) none),
+)
   where
-    apart : (b : Bool) → is_eq (key_cmp (key.Cost net metric src dst) k) ≡ b → is_eq (key_cmp (key.Cost net metric src dst) k) ≡ false
+    apart : (b : Bool) → is_eq (key_cmp (key.Cost net metric src dst) k) ≡ b
+        → is_eq (key_cmp (key.Cost net metric src dst) k) ≡ false
     apart false e = e
     apart true e =
         let one : key.Cost net metric src dst ≡ k = one_key (key.Cost net metric src dst) k e in
@@ -50,52 +56,70 @@ unnamed net metric src dst (k ∷ keys) none = (apart (is_eq (key_cmp (key.Cost 
         cc
 
 -- so it has no cost among rows
-none_given : (at : Key) (rows : Rows) → AllByRecursion (λ k. is_eq (key_cmp at k) ≡ false) (keys_of rows) → value_of rows at ≡ None
+none_given : (at : Key) (rows : Rows) → AllByRecursion (λ k. is_eq (key_cmp at k) ≡ false) (keys_of rows)
+    → value_of rows at ≡ None
 none_given at [] none = refl
 none_given at (row ∷ rows) none = rw none.0 (none_given at rows none.1)
 
 -- and no write is of it
-none_written : (at : Key) (writes : List Write) → AllByRecursion (λ k. is_eq (key_cmp at k) ≡ false) (map (λ write. write.key) writes) → NoneWrites at writes
+none_written : (at : Key) (writes : List Write)
+    → AllByRecursion (λ k. is_eq (key_cmp at k) ≡ false) (map (λ write. write.key) writes) → NoneWrites at writes
 none_written at [] none = tt
 none_written at (write ∷ writes) none = (none.0, none_written at writes none.1)
 
 -- ---- tables
 
 -- a table with the sources of rows made anew tells their costs
-pub table_of_rows : (rows : Rows) (net metric : Name) (sources : List Name) → AreSorted rows → IsSetOf sources (sources_of net metric (keys_of rows))
+pub table_of_rows : (rows : Rows) (net metric : Name) (sources : List Name) → AreSorted rows
+    → IsSetOf sources (sources_of net metric (keys_of rows))
     → TellsCosts rows net metric (renewed (costs_from rows net metric) sources [])
 table_of_rows rows net metric sources sorted set src dst =
-    cost_told-renewed (costs_from rows net metric) sources [] src dst set.rise none_in_order ∙ by (list_any (same_name src) sources) refl
+    cost_told-renewed (costs_from rows net metric) sources [] src dst set.rise none_in_order
+    ∙ by (list_any (same_name src) sources) refl
   where
-    by : (b : Bool) → list_any (same_name src) sources ≡ b → cond b (cost_to (costs_from rows net metric src) dst) (cost_told [] src dst) ≡ cost_of rows net metric src dst
+    by : (b : Bool) → list_any (same_name src) sources ≡ b
+        → cond b (cost_to (costs_from rows net metric src) dst) (cost_told [] src dst) ≡ cost_of rows net metric src dst
     by true e = cost_to-costs_from rows net metric src dst sorted
     by false e =
         let none : list_any (same_name src) (sources_of net metric (keys_of rows)) ≡ false = sym (set.same src) ∙ e in
-        sym (ap number_at (none_given (key.Cost net metric src dst) rows (unnamed net metric src dst (keys_of rows) none)))
+        sym (ap number_at (none_given (key.Cost net metric src dst)
+        rows (unnamed net metric src dst (keys_of rows) none)))
 
 -- a source of which no write is keeps its costs
 cost_of-unwritten : (before : Rows) (writes : List Write) (net metric src dst : Name) → AreSorted before
-    → list_any (same_name src) (sources_of net metric (map (λ write. write.key) writes)) ≡ false → cost_of (after before writes) net metric src dst ≡ cost_of before net metric src dst
+    → list_any (same_name src) (sources_of net metric (map (λ write. write.key) writes)) ≡ false
+    → cost_of (after before writes) net metric src dst ≡ cost_of before net metric src dst
 cost_of-unwritten before writes net metric src dst sorted none =
     ap number_at
     (value_of-after-none before writes (key.Cost net metric src dst) sorted
-    (none_written (key.Cost net metric src dst) writes (unnamed net metric src dst (map (λ (write : Write). write.key) writes) none)))
+    (none_written (key.Cost net metric src dst)
+    writes (unnamed net metric src dst (map (λ (write : Write). write.key) writes) none)))
 
 -- a table before writes, with the sources written made anew, tells the costs after them
-pub table_after_writes : (rows before : Rows) (writes : List Write) (net metric : Name) (sources : List Name) (table : Table) → AreSorted rows → InOrder table
-    → IsSetOf sources (sources_of net metric (map (λ write. write.key) writes)) → AreSorted before → rows ≡ after before writes
-    → TellsCosts before net metric table → TellsCosts rows net metric (renewed (costs_from rows net metric) sources table)
+pub table_after_writes : (rows before : Rows) (writes : List Write) (net metric : Name) (sources : List Name)
+    (table : Table) → AreSorted rows → InOrder table
+    → IsSetOf sources (sources_of net metric (map (λ write. write.key) writes)) → AreSorted before
+    → rows ≡ after before writes
+    → TellsCosts before net metric table
+    → TellsCosts rows net metric (renewed (costs_from rows net metric) sources table)
 table_after_writes rows before writes net metric sources table sorted in_order set sorted_before is told src dst =
-    cost_told-renewed (costs_from rows net metric) sources table src dst set.rise in_order ∙ by (list_any (same_name src) sources) refl
+    cost_told-renewed (costs_from rows net metric) sources table src dst set.rise in_order
+    ∙ by (list_any (same_name src) sources) refl
   where
-    by : (b : Bool) → list_any (same_name src) sources ≡ b → cond b (cost_to (costs_from rows net metric src) dst) (cost_told table src dst) ≡ cost_of rows net metric src dst
+    by : (b : Bool) → list_any (same_name src) sources ≡ b
+        → cond b (cost_to (costs_from rows net metric src) dst) (cost_told table src dst)
+        ≡ cost_of rows net metric src dst
     by true e = cost_to-costs_from rows net metric src dst sorted
-    by false e = told src dst ∙ rw is (sym (cost_of-unwritten before writes net metric src dst sorted_before (sym (set.same src) ∙ e)))
+    by false e = told src dst ∙ rw is
+        (sym (cost_of-unwritten before writes net metric src dst sorted_before (sym (set.same src) ∙ e)))
 
 -- where no cost of the metric was written, the table before the writes tells the costs after them
-pub table_unwritten : (rows before : Rows) (writes : List Write) (net metric : Name) (sources : List Name) (table : Table)
-    → IsSetOf sources (sources_of net metric (map (λ write. write.key) writes)) → sources ≡ [] → AreSorted before → rows ≡ after before writes
+pub table_unwritten : (rows before : Rows) (writes : List Write) (net metric : Name)
+    (sources : List Name) (table : Table)
+    → IsSetOf sources (sources_of net metric (map (λ write. write.key) writes)) → sources ≡ [] → AreSorted before
+    → rows ≡ after before writes
     → TellsCosts before net metric table → TellsCosts rows net metric table
 table_unwritten rows before writes net metric sources table set none sorted_before is told src dst =
     told src dst
-    ∙ rw is (sym (cost_of-unwritten before writes net metric src dst sorted_before (sym (set.same src) ∙ ap (λ names. list_any (same_name src) names) none)))
+    ∙ rw is (sym (cost_of-unwritten before writes net metric src dst sorted_before (sym (set.same src)
+    ∙ ap (λ names. list_any (same_name src) names) none)))

@@ -1,50 +1,69 @@
 //! The costs in a metric from one source.
-ghost use Rattle.std.specs.Prelude.{◌≡◌, IfOk, IfSome, Some, map, nat_eq, length};
+ghost use Rattle.std.specs.Prelude.{◌≡◌, ◌++◌, ◌∷◌, [], true, IfOk, IfSome, OnOk, length, map, nat_eq, slice_get, zip};
+ghost use Rattle.std.specs.Arc.{arc_value};
+ghost use Rattle.std.specs.List.{AllByRecursion};
 ghost use Rattle.alto_rows.specs.Rows.{AreSorted};
+ghost use Rattle.cost_tables.specs.declared.from_source.Guess.{Guess};
+ghost use Rattle.cost_tables.specs.Guesses.{IsGuess};
 ghost use Rattle.cost_tables.specs.Tables.{cost_to, costs_from};
 
 use alto_names::{Metric, NetName, PidName};
 use alto_rows::{Key, RowStore, Span, Value, rows_in};
 use std::alloc::{AllocError, Global};
 use std::marker::Model;
+use std::sync::Arc;
 
-/// The costs in a metric from one source, by destination in byte order: 16 bytes each. A contract sees the source and
-/// the costs.
+/// The costs in a metric from one source, by destination in byte order: 8 bytes each. Sources that have the same
+/// destinations share their names. A contract sees the source and the costs.
 #[derive(Drop)]
 pub(crate) struct FromSource {
     source: PidName,
-    costs: Vec<(PidName, u64)>,
+    destinations: Arc<Vec<PidName>>,
+    costs: Vec<u64>,
+}
+
+/// A place among the costs, and the cost there, if there is one.
+#[derive(Clone, Copy)]
+struct Guess {
+    place: usize,
+    cost: Option<u64>,
 }
 
 impl Model for FromSource {
+    ghost use Rattle.std.specs.Prelude.{◌≡◌, length, zip};
+    ghost use Rattle.std.specs.Arc.{arc_value};
     ghost use Rattle.std.specs.List.Sorted.{IsStrictlySortedBy};
-    ghost use Rattle.std.specs.Map.{keys_of};
     ghost use Rattle.alto_rows.specs.Order.{name_cmp};
     ghost use Rattle.cost_tables.specs.Tables.{Costs, Name};
 
     ghost Value = { Name × Costs };
 
-    ghost view = { λ from. (from.source, from.costs.items) };
+    ghost view = { λ from. (from.source, zip (arc_value from.destinations).items from.costs.items) };
 
-    ghost invariant = { λ from. IsStrictlySortedBy name_cmp (keys_of from.costs.items) };
+    ghost invariant = { λ from. IsStrictlySortedBy name_cmp (arc_value from.destinations).items
+        × (length from.costs.items ≡ length (arc_value from.destinations).items) };
 }
 
 impl FromSource {
-    /// Those that rows give. One search, and one walk over the source's rows, whose names are shared.
+    /// Those that rows give. One search, and one walk over the source's rows. The names of the destinations are shared
+    /// with a source that has the same.
     pub(crate) fn of<R: RowStore>(
         alloc: Global,
         rows: &R,
         net: &NetName,
         metric: &Metric,
         source: &PidName,
+        like: Option<&FromSource>,
     ) -> Result<FromSource, AllocError>
         requires { AreSorted (R.rows rows.now) }
         ensures { IfOk result (λ from. from
             ≡ (source.now, costs_from (R.rows rows.now) net.now metric.now source.now)) }
     {
+        let (destinations, costs) = costs_from(alloc, rows, net, metric, source)?;
         Ok(FromSource {
             source: source.clone()?,
-            costs: costs_from(alloc, rows, net, metric, source)?,
+            destinations: shared(alloc, like, destinations)?,
+            costs,
         })
     }
 
@@ -72,70 +91,146 @@ impl FromSource {
     ) -> Result<Vec<Option<u64>>, AllocError>
         ensures { IfOk result (λ costs. costs.items ≡ map (cost_to self.now.1) destinations.now) }
     {
+        let guesses = self.guesses(alloc, places)?;
         let mut costs = Vec::with_capacity(alloc, destinations.len())?;
-        let mut found = Vec::with_capacity(alloc, destinations.len())?;
         for destination in destinations {
-            let (cost, place) = self.search(destination, place_at(places, costs.len()));
+            let at = costs.len();
+            let (cost, place) = self.told(destination, guesses.get(at));
             costs.push(cost)?;
-            found.push(place)?;
+            keep_place(places, at, place)?;
         }
-        *places = found;
         Ok(costs)
+    }
+
+    /// The costs at places. They lie far apart, and are read before any name is looked at, so that one read needn't
+    /// wait for another.
+    fn guesses(&self, alloc: Global, places: &[usize]) -> Result<Vec<Guess>, AllocError>
+        ensures { IfOk result (λ guesses. AllByRecursion (IsGuess self.now.1) guesses.items) }
+    {
+        let mut guesses = Vec::with_capacity(alloc, places.len())?;
+        for place in places {
+            guesses.push(self.guess(*place))?;
+        }
+        Ok(guesses)
+    }
+
+    /// The cost at a place.
+    fn guess(&self, place: usize) -> Guess
+        ensures { IsGuess self.now.1 result }
+    {
+        Guess {
+            place,
+            cost: number_at(&self.costs, place),
+        }
     }
 
     /// The cost to a destination, and where it stands or would stand. One comparison where the guess is right, else one
     /// binary search.
-    fn search(&self, destination: &PidName, guess: usize) -> (Option<u64>, usize)
+    fn told(&self, destination: &PidName, guess: Option<&Guess>) -> (Option<u64>, usize)
+        requires { IfSome guess (λ guess. IsGuess self.now.1 guess.now) }
         ensures { result.0 ≡ cost_to self.now.1 destination.now }
     {
-        if let Some(cost) = self.cost_at(guess, destination) {
-            return (Some(cost), guess);
+        if let Some(guess) = guess {
+            if self.has_at(guess.place, destination) {
+                return (guess.cost, guess.place);
+            }
         }
-        match self.costs.binary_search_by(|cost| cost.0.cmp(destination)) {
-            Ok(place) => (Some(self.costs[place].1), place),
-            Err(place) => (None, place),
+        self.search(destination)
+    }
+
+    /// Whether a destination stands at a place.
+    fn has_at(&self, place: usize, destination: &PidName) -> bool
+        ensures { result ≡ true → (guess : Guess) → guess.place ≡ place → IsGuess self.now.1 guess
+            → guess.cost ≡ cost_to self.now.1 destination.now }
+    {
+        match self.destinations.get(place) {
+            Some(name) => name == destination,
+            None => false,
         }
     }
 
-    /// The cost at a place, if it is that to a destination.
-    fn cost_at(&self, place: usize, destination: &PidName) -> Option<u64>
-        ensures { IfSome result (λ cost. cost_to self.now.1 destination.now ≡ Some cost) }
+    /// The cost to a destination, and where it stands or would stand. One binary search.
+    fn search(&self, destination: &PidName) -> (Option<u64>, usize)
+        ensures { result.0 ≡ cost_to self.now.1 destination.now }
     {
-        let cost = self.costs.get(place)?;
-        if cost.0 == *destination {
-            Some(cost.1)
-        } else {
-            None
+        match self.destinations.binary_search(destination) {
+            Ok(place) => (Some(self.costs[place]), place),
+            Err(place) => (None, place),
         }
     }
 }
 
-/// The costs from a source that rows give, with no spare room.
+/// The number at a place, if there is one.
+fn number_at(numbers: &[u64], place: usize) -> Option<u64>
+    ensures { result ≡ slice_get numbers.now place }
+{
+    Some(*numbers.get(place)?)
+}
+
+/// The destinations of the costs from a source that rows give, and the costs, with no spare room.
 fn costs_from<R: RowStore>(
     alloc: Global,
     rows: &R,
     net: &NetName,
     metric: &Metric,
     source: &PidName,
-) -> Result<Vec<(PidName, u64)>, AllocError>
-    ensures { IfOk result (λ costs. costs.items
+) -> Result<(Vec<PidName>, Vec<u64>), AllocError>
+    ensures told { IfOk result (λ lists. zip lists.0.items lists.1.items
         ≡ costs_from (R.rows rows.now) net.now metric.now source.now) }
+    ensures even { IfOk result (λ lists. length lists.1.items ≡ length lists.0.items) }
 {
+    let mut destinations = Vec::new(alloc);
     let mut costs = Vec::new(alloc);
     let span = Span::CostsFrom(net.clone()?, metric.clone()?, source.clone()?);
     for row in rows_in(rows, span) {
         if let (Key::Cost(_, _, _, destination), Value::Num(cost)) = (&row.0, &row.1) {
-            costs.push((destination.clone()?, *cost))?;
+            push(&mut destinations, &mut costs, destination, *cost)?;
         }
     }
+    destinations.shrink_to_fit();
     costs.shrink_to_fit();
-    Ok(costs)
+    Ok((destinations, costs))
 }
 
-/// The guess at a place, 0 where there is none.
-fn place_at(places: &[usize], at: usize) -> usize {
-    match places.get(at) {
-        Some(place) => *place,
-        None => 0,
+/// Puts a destination with its cost behind those that are there.
+#[tactic(auto, using(crate::proofs::PairLemmas::zip_push))]
+fn push(
+    destinations: &mut Vec<PidName>,
+    costs: &mut Vec<u64>,
+    destination: &PidName,
+    cost: u64,
+) -> Result<(), AllocError>
+    requires { length costs.old.items ≡ length destinations.old.items }
+    ensures told { OnOk result (zip destinations.new.items costs.new.items
+        ≡ zip destinations.old.items costs.old.items ++ (destination.now, cost) ∷ []) }
+    ensures even { OnOk result (length costs.new.items ≡ length destinations.new.items) }
+{
+    destinations.push(destination.clone()?)?;
+    costs.push(cost)?;
+    Ok(())
+}
+
+/// Names behind an `Arc`: that of a source with the same destinations, if there is one.
+fn shared(
+    alloc: Global,
+    like: Option<&FromSource>,
+    names: Vec<PidName>,
+) -> Result<Arc<Vec<PidName>>, AllocError>
+    ensures { IfOk result (λ shared. (arc_value shared).items ≡ names.items) }
+{
+    if let Some(from) = like {
+        if *from.destinations == names {
+            return Arc::try_clone(&from.destinations);
+        }
     }
+    Ok(Arc::new(alloc, names)?)
+}
+
+/// Keeps a place as the next guess.
+fn keep_place(places: &mut Vec<usize>, at: usize, place: usize) -> Result<(), AllocError> {
+    match places.get_mut(at) {
+        Some(kept) => *kept = place,
+        None => places.push(place)?,
+    }
+    Ok(())
 }

@@ -155,7 +155,8 @@ fn put_standing<R: RowStore>(
     ensures { OnOk result (map arc_value sources.new.items ≡ map arc_value sources.old.items
         ++ made.standing source.now (costs_from (R.rows rows.now) net.now metric.now source.now)) }
 {
-    let from = FromSource::of(alloc, rows, net, metric, source)?;
+    let like = sources.last().map(|from| &**from);
+    let from = FromSource::of(alloc, rows, net, metric, source, like)?;
     if !from.is_empty() {
         sources.push(Arc::new(alloc, from)?)?;
     }

@@ -13,7 +13,8 @@ loop-row-init g c =
     let rows = g.R.RowStore.rows c.args.rows.now in
     let walk : c.into_iter-row-iterator.result ≡ rows_in rows (span.CostsIn net metric) =
     c.into_iter-row-iterator.ensures.into_iter_gives
-    ∙ (c.rows_in-row-items.ensures ∙ (λ i. rows_in rows (span.CostsIn (c.in_ok-clone.ensures.cases i) (c.in_ok-clone-2.ensures.cases i)))) in
+    ∙ (c.rows_in-row-items.ensures
+    ∙ (λ i. rows_in rows (span.CostsIn (c.in_ok-clone.ensures.cases i) (c.in_ok-clone-2.ensures.cases i)))) in
     λ name. rw (c.new-sources.ensures.empty, walk, sources_in_span net metric rows) refl
 
 pub returns : goal.returns
@@ -26,4 +27,5 @@ returns g c =
     let told : AreWith net metric all names [] = rw none at c.loop-row.invariant in
     let gives = c.into_iter.ensures.into_iter_gives in
     let given : IfOk c.collect.result (λ sources. sources.items ≡ names) = search rules in
-    IfOk-weaker c.collect.result _ _ (λ sources is. record { rise = rw is gives.4; same = rw is (with_all net metric all names told) }) given
+    IfOk-weaker c.collect.result _
+    _ (λ sources is. record { rise = rw is gives.4; same = rw is (with_all net metric all names told) }) given

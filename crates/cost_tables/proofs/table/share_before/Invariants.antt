@@ -6,7 +6,8 @@ use Rattle.cost_tables.proofs.table.share_before.Given as goal
 -- of the sources that are left the same are to be shared still, and the same stand behind the name
 abbrev pub invariant-loop-from : goal.invariant-loop-from
 invariant-loop-from l = record {
-  shared : map arc_value l.shared.items ++ before l.name (map arc_value l.left) ≡ map arc_value l.initial.shared.items ++ before l.name (map arc_value l.sources);
+  shared : map arc_value l.shared.items ++ before l.name (map arc_value l.left) ≡ map arc_value l.initial.shared.items
+      ++ before l.name (map arc_value l.sources);
   left : behind l.name (map arc_value l.left) ≡ behind l.name (map arc_value l.sources);
 }
 

@@ -14,7 +14,8 @@ use Rattle.cost_tables.proofs.TableLemmas.{table_after_writes, table_unwritten}
 use Rattle.cost_tables.proofs.table.Table.after.Goals as goal
 
 -- what holds of a table holds of its clone
-if_shared : {E Z : Type 0} (P : Table → Type 0) (table : Table) → P table → (r : Result (Arc Table Z) E) → IfOk r (λ after. arc_value after ≡ table) → IfOk r (λ after. P (arc_value after))
+if_shared : {E Z : Type 0} (P : Table → Type 0) (table : Table) → P table → (r : Result (Arc Table Z) E)
+    → IfOk r (λ after. arc_value after ≡ table) → IfOk r (λ after. P (arc_value after))
 if_shared P table holds (Ok after) is = rw is holds
 if_shared P table holds (Err e) is = tt
 
@@ -27,8 +28,10 @@ returns-then-is_empty g c =
     let net = c.args.net.now in
     let metric = c.args.metric.now in
     let table = arc_value c.args.table.now in
-    if_shared (λ after_it. (before : Rows) → AreSorted before → rows ≡ after before c.args.writes.now → TellsCosts before net metric table → TellsCosts rows net metric after_it) table
-    (λ before sorted is told. table_unwritten rows before c.args.writes.now net metric sources.items table c.in_ok-sources.ensures none sorted is told) c.try_clone.result c.try_clone.ensures
+    if_shared (λ after_it. (before : Rows) → AreSorted before → rows ≡ after before c.args.writes.now
+    → TellsCosts before net metric table → TellsCosts rows net metric after_it) table
+    (λ before sorted is told. table_unwritten rows before c.args.writes.now net metric sources.items table
+    c.in_ok-sources.ensures none sorted is told) c.try_clone.result c.try_clone.ensures
 
 pub returns : goal.returns
 returns g c before sorted is told =
@@ -37,8 +40,11 @@ returns g c before sorted is told =
     let metric = c.args.metric.now in
     let sources = c.deref-2.result.now in
     let table = arc_value c.args.table.now in
-    let set : IsSetOf sources (sources_of net metric (map (λ write. write.key) c.args.writes.now)) = rw c.deref-2.ensures.value c.in_ok-sources.ensures in
-    let in_order : IsStrictlySortedBy name_cmp (keys_of table) = rw c.deref.ensures at c.in_ok-renewed.ensures.in_order in
+    let set : IsSetOf sources (sources_of net metric (map (λ write. write.key) c.args.writes.now)) =
+    rw c.deref-2.ensures.value c.in_ok-sources.ensures in
+    let in_order : IsStrictlySortedBy name_cmp (keys_of table) =
+    rw c.deref.ensures at c.in_ok-renewed.ensures.in_order in
     let made : arc_value c.in_ok-new.field-0 ≡ renewed (costs_from rows net metric) sources table =
     c.in_ok-new.ensures.ok ∙ (rw c.deref.ensures at c.in_ok-renewed.ensures.gives) in
-    rw made (table_after_writes rows before c.args.writes.now net metric sources table c.requires in_order set sorted is told)
+    rw made (table_after_writes rows before c.args.writes.now net metric sources table c.requires in_order
+    set sorted is told)

@@ -9,7 +9,8 @@ use Rattle.cost_tables.proofs.TableLemmas.{table_of_rows}
 use Rattle.cost_tables.proofs.table.Table.of.Goals as goal
 
 -- what holds of a table holds of what gives it
-if_made : {E : Type 0} (P : Table → Type 0) (made : Table) → P made → (r : Result Table E) → IfOk r (λ table. table ≡ made) → IfOk r P
+if_made : {E : Type 0} (P : Table → Type 0) (made : Table) → P made → (r : Result Table E)
+    → IfOk r (λ table. table ≡ made) → IfOk r P
 if_made P made holds (Ok table) is = subst P (sym is) holds
 if_made P made holds (Err e) is = tt
 
@@ -21,7 +22,10 @@ returns g c =
     let rows = g.R.RowStore.rows c.args.rows.now in
     let net = c.args.net.now in
     let metric = c.args.metric.now in
-    let set : IsSetOf c.deref.result.now (sources_of net metric (keys_of rows)) = rw c.deref.ensures.value c.in_ok-sources.ensures in
+    let set : IsSetOf c.deref.result.now (sources_of net metric (keys_of rows)) =
+    rw c.deref.ensures.value c.in_ok-sources.ensures in
     let empty : map arc_value c.new.result.items ≡ [] = ap (λ sources. map arc_value sources) c.new.ensures.items in
-    if_made (TellsCosts rows net metric) (renewed (costs_from rows net metric) c.deref.result.now (map arc_value c.new.result.items))
-    (rw empty (table_of_rows rows net metric c.deref.result.now c.requires set)) c.renewed.result c.renewed.ensures.gives
+    if_made (TellsCosts rows net metric)
+    (renewed (costs_from rows net metric) c.deref.result.now (map arc_value c.new.result.items))
+    (rw empty (table_of_rows rows net metric c.deref.result.now c.requires set)) c.renewed.result
+    c.renewed.ensures.gives

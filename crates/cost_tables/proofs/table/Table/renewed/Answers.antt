@@ -14,5 +14,6 @@ pub invariant_of-result : goal.invariant_of-result
 invariant_of-result g c =
     let costs = costs_from (g.R.RowStore.rows c.args.rows.now) c.args.net.now c.args.metric.now in
     let sorted : IsStrictlySortedBy name_cmp (keys_of c.args.self.now) = rw c.self.view_is at c.self.invariant in
-    let is : map arc_value c.share.new.shared.items ≡ renewed costs c.args.sources.now c.args.self.now = grind (arith, common_steps) in
+    let is : map arc_value c.share.new.shared.items ≡ renewed costs c.args.sources.now c.args.self.now =
+    grind (arith, common_steps) in
     rw is (renewed_in_order costs c.args.sources.now c.args.self.now c.requires.rise sorted)

@@ -8,4 +8,5 @@ use Rattle.cost_tables.proofs.table.Table.renewed.Given as goal
 abbrev pub invariant-loop-source : goal.invariant-loop-source
 invariant-loop-source g l =
     let costs = costs_from (g.R.RowStore.rows l.rows) l.net l.metric in
-    map arc_value l.renewed.items ++ renewed costs (drop l.source-index l.sources) (map arc_value l.left) ≡ renewed costs l.sources l.self
+    map arc_value l.renewed.items ++ renewed costs (drop l.source-index l.sources) (map arc_value l.left)
+    ≡ renewed costs l.sources l.self

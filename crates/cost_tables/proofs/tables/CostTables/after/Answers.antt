@@ -4,7 +4,8 @@ use Rattle.std.specs.Arc.{arc_value}
 use Rattle.cost_tables.specs.Tables.{TellsCosts}
 use Rattle.cost_tables.proofs.TablesLemmas.{AreMade, made_costs, one_made, other_passed}
 use Rattle.cost_tables.proofs.tables.CostTables.after.Goals as goal
-use Rattle.cost_tables.proofs.tables.CostTables.after.Goals.{in-Cost+in_ok-table+in_ok-metric_table+in_ok-push, in_default}
+use Rattle.cost_tables.proofs.tables.CostTables.after.Goals.{in-Cost+in_ok-table+in_ok-metric_table+in_ok-push}
+use Rattle.cost_tables.proofs.tables.CostTables.after.Goals.{in_default}
 
 pub loop-of-preserved : goal.loop-of-preserved
 loop-of-preserved g c before sorted follows costs =
@@ -13,15 +14,19 @@ loop-of-preserved g c before sorted follows costs =
     let step : drop c.loop-of.of-index c.args.resources.now ≡ of ∷ left =
     rw (drop_more c.args.resources.now c.loop-of.of-index of c.loop-of-test.true, ← c.of-item.is) refl in
     let rows = g.R.RowStore.rows c.args.rows.now in
-    let made : AreMade rows (of ∷ left) c.args.resources.now c.loop-of.tables.items = rw (← step) (c.loop-of.invariant before sorted follows costs) in
+    let made : AreMade rows (of ∷ left) c.args.resources.now c.loop-of.tables.items =
+    rw (← step) (c.loop-of.invariant before sorted follows costs) in
     elim c.match-of.branch [
       | in-Cost+in_ok-table+in_ok-metric_table+in_ok-push w ↦
-          let tells : TellsCosts rows w.in-Cost.net w.in-Cost.metric (arc_value w.in_ok-table.table) = w.in_ok-table.ensures before sorted follows costs in
-          one_made rows of left _ _ _ _ _ _ _ w.in-Cost.is made tells (rw w.tables-is w.in_ok-push.ensures.items) w.in_ok-metric_table.ensures
+          let tells : TellsCosts rows w.in-Cost.net w.in-Cost.metric (arc_value w.in_ok-table.table) =
+          w.in_ok-table.ensures before sorted follows costs in
+          one_made rows of left _ _ _ _ _ _ _ w.in-Cost.is made tells (rw w.tables-is w.in_ok-push.ensures.items)
+          w.in_ok-metric_table.ensures
       | in_default w ↦ rw w.tables-is (other_passed rows of left _ _ w.in_default.not-Cost made)
     ]
 
 pub returns : goal.returns
 returns g c before sorted follows costs =
-    made_costs _ _ _ _ c.requires.good (drop_all c.loop-of.of-index c.args.resources.now c.loop-of-test.false) c.requires.declared
+    made_costs _ _ _ _ c.requires.good (drop_all c.loop-of.of-index c.args.resources.now c.loop-of-test.false)
+    c.requires.declared
     (c.loop-of.invariant before sorted follows costs)

@@ -1,0 +1,173 @@
+-- Names and costs in two lists of one length, told as a list of pairs.
+use Rattle.std.proofs.Common.{◌≡◌, ℕ, zero, suc, ◌<◌, refl, ap, sym, ◌∙◌, arith, get_or}
+use Rattle.std.proofs.lemmas.Bool.{and_parts}
+use Rattle.std.proofs.Math.ListN.{get_or-map}
+use Rattle.std.proofs.lemmas.List.{length-map}
+use Rattle.std.proofs.lemmas.Map.Entries.{length-keys_of}
+use Rattle.std.specs.Cmp.Lexicographic.{pointwise}
+use Rattle.std.specs.Prelude.{true, ◌&&◌, List, [], ◌∷◌, ◌++◌, Option, Some, None, Result, Ok, Err, length}
+use Rattle.std.specs.Prelude.{map, option_map, slice_get, zip}
+use Rattle.std.specs.List.{HoldsAt}
+use Rattle.std.specs.List.Sorted.{IsBinarySearchResult, IsNonDecreasingBy, IsPartitionPoint, IsSearchInRange}
+use Rattle.std.specs.List.Sorted.{IsStrictlySortedBy}
+use Rattle.std.specs.Map.{keys_of}
+use Rattle.std.specs.Ordering.{ordering_index}
+use Rattle.std.specs.declared.cmp.Ordering.{Ordering}
+use Rattle.std.specs.declared.cmp.Ordering.TheVariants.{Less, Equal, Greater}
+use Rattle.alto_rows.specs.Order.{name_cmp, same_name}
+use Rattle.alto_rows.proofs.TouchesLemmas.{one_name}
+use Rattle.cost_tables.specs.declared.from_source.Guess.{Guess}
+use Rattle.cost_tables.specs.Guesses.{IsGuess}
+use Rattle.cost_tables.specs.Tables.{Costs, Name, cost_to}
+use Rattle.cost_tables.proofs.FromLemmas.{cost_to-place}
+use Rattle.cost_tables.proofs.SearchLemmas.{found, lookup_from_search}
+
+-- a pair more
+pub zip_push : (names : List Name) (costs : List ℕ) (name : Name) (cost : ℕ) → length costs ≡ length names
+    → zip (names ++ name ∷ []) (costs ++ cost ∷ []) ≡ zip names costs ++ (name, cost) ∷ []
+zip_push [] [] name cost even = refl
+zip_push [] (first ∷ costs) name cost even = absurd (omega arith)
+zip_push (first ∷ names) [] name cost even = absurd (omega arith)
+zip_push (first ∷ names) (one ∷ costs) name cost even =
+    ap (λ more. (first, one) ∷ more) (zip_push names costs name cost (omega arith))
+
+-- their names
+pub keys_of-zip : (names : List Name) (costs : List ℕ) → length costs ≡ length names → keys_of (zip names costs) ≡ names
+keys_of-zip [] [] even = refl
+keys_of-zip [] (cost ∷ costs) even = absurd (omega arith)
+keys_of-zip (name ∷ names) [] even = absurd (omega arith)
+keys_of-zip (name ∷ names) (cost ∷ costs) even = ap (λ more. name ∷ more) (keys_of-zip names costs (omega arith))
+
+-- their number
+pub length-zip : (names : List Name) (costs : List ℕ) → length costs ≡ length names
+    → length (zip names costs) ≡ length costs
+length-zip names costs even =
+    sym (length-keys_of (zip names costs)) ∙ (ap length (keys_of-zip names costs even) ∙ sym even)
+
+-- the pair at a place
+pub slice_get-zip : (names : List Name) (costs : List ℕ) (place : ℕ) (name : Name) (cost : ℕ)
+    → slice_get names place ≡ Some name → slice_get costs place ≡ Some cost
+    → slice_get (zip names costs) place ≡ Some (name, cost)
+slice_get-zip [] costs place name cost a b = cc
+slice_get-zip (first ∷ names) [] place name cost a b = cc
+slice_get-zip (first ∷ names) (one ∷ costs) zero name cost a b =
+    let first_is : first ≡ name = cc in
+    let one_is : one ≡ cost = cc in
+    rw (first_is, one_is) refl
+slice_get-zip (first ∷ names) (one ∷ costs) (suc place) name cost a b = slice_get-zip names costs place name cost a b
+
+-- names that are the same one by one are one list
+pub one_list : (xs ys : List Name) → pointwise same_name xs ys ≡ true → xs ≡ ys
+one_list [] [] same = refl
+one_list [] (y ∷ ys) same = cc
+one_list (x ∷ xs) [] same = cc
+one_list (x ∷ xs) (y ∷ ys) same =
+    let both = and_parts (same_name x y) (pointwise same_name xs ys) same in
+    rw (one_name x y both.0, one_list xs ys both.1) refl
+
+-- ---- a search among the names of pairs
+
+-- what holds of the name at a place holds there of the pair's
+holds_back : (P : Name → Type 0) (costs : Costs) (i : ℕ) → i < length costs → HoldsAt P (keys_of costs) i
+    → HoldsAt (λ cost. P cost.0) costs i
+holds_back P [] i within h = absurd (omega arith)
+holds_back P (cost ∷ costs) zero within h = λ d. h cost.0
+holds_back P (cost ∷ costs) (suc i) within h = λ d. holds_back P costs i (omega arith) (λ name. h name) d
+
+-- a search among the names is one among the pairs
+pub search_back : (ord : Name → Ordering) (costs : Costs) (r : Result ℕ ℕ) → IsSearchInRange r (length costs)
+    → IsBinarySearchResult ord (keys_of costs) r → IsBinarySearchResult (λ cost. ord cost.0) costs r
+search_back ord costs (Ok i) within found = holds_back (λ name. ord name ≡ Equal) costs i within found
+search_back ord costs (Err i) within found = λ rises. by (found (forth rises))
+  where
+    forth : IsNonDecreasingBy (λ cost. ordering_index (ord cost.0)) costs
+        → IsNonDecreasingBy (λ name. ordering_index (ord name)) (keys_of costs)
+    forth rises j k d below inside =
+        let there : k < length costs = rw (length-keys_of costs) at inside in
+        let both = rises j k (d, 0) below there in
+        rw (
+          get_or-map (λ (cost : Name × ℕ). cost.0) costs j (d, 0),
+          get_or-map (λ (cost : Name × ℕ). cost.0) costs k (d, 0),
+        ) both
+
+    by : IsPartitionPoint (λ name. ord name ≡ Less) (λ name. ord name ≡ Greater) (keys_of costs) i
+        → IsPartitionPoint (λ cost. ord cost.0 ≡ Less) (λ cost. ord cost.0 ≡ Greater) costs i
+    by point = (
+      (λ k d low high. holds_back (λ name. ord name ≡ Less) costs k (omega arith) (λ name. point.0 k name low high) d),
+      (λ k d low high.
+          let inside : k < length (keys_of costs) = rw (length-keys_of costs) high in
+          holds_back (λ name. ord name ≡ Greater) costs k high (λ name. point.1 k name low inside) d),
+    )
+
+-- ---- what the costs of names tell
+
+-- a cost beside a name is what is told of the name
+pub cost_beside : (names : List Name) (costs : List ℕ) (told : Costs) (place : ℕ) (name : Name) (cost : ℕ) (dst : Name)
+    → zip names costs ≡ told → length costs ≡ length names → IsStrictlySortedBy name_cmp names
+    → slice_get names place ≡ Some name → slice_get costs place ≡ Some cost → same_name name dst ≡ true
+    → cost_to told dst ≡ Some cost
+cost_beside names costs told place name cost dst is even rise there beside same =
+    let in_order : IsStrictlySortedBy name_cmp (keys_of (zip names costs)) = rw (keys_of-zip names costs even) rise in
+    rw (← is)
+    (cost_to-place (zip names costs) place (name, cost) dst in_order
+    (slice_get-zip names costs place name cost there beside) same)
+
+-- what a search among the names finds is what is told
+pub cost_searched : (names : List Name) (costs : List ℕ) (told : Costs) (dst : Name) (r : Result ℕ ℕ)
+    → zip names costs ≡ told → length costs ≡ length names → IsStrictlySortedBy name_cmp names
+    → IsSearchInRange r (length names) → IsBinarySearchResult (λ name. name_cmp name dst) names r
+    → cost_to told dst ≡ found (zip names costs) r
+cost_searched names costs told dst r is even rise within searched =
+    let keys : keys_of (zip names costs) ≡ names = keys_of-zip names costs even in
+    let count : length (zip names costs) ≡ length names = length-zip names costs even ∙ even in
+    rw (← is)
+    (lookup_from_search (zip names costs) dst r (rw keys rise) (rw count within)
+    (search_back (λ name. name_cmp name dst) (zip names costs) r (rw count within) (rw keys searched)))
+
+-- where the search ends at a place, that is the cost beside it
+pub place_searched : (names : List Name) (costs : List ℕ) (place cost : ℕ) → length costs ≡ length names
+    → slice_get costs place ≡ Some cost → found (zip names costs) (Ok place) ≡ Some cost
+place_searched [] [] place cost even beside = cc
+place_searched [] (first ∷ costs) place cost even beside = absurd (omega arith)
+place_searched (name ∷ names) [] place cost even beside = absurd (omega arith)
+place_searched (name ∷ names) (first ∷ costs) zero cost even beside = beside
+place_searched (name ∷ names) (first ∷ costs) (suc place) cost even beside =
+    place_searched names costs place cost (omega arith) beside
+
+-- ---- guesses
+
+-- the cost at a place stands in its pair
+pub slice_get-costs : (names : List Name) (costs : List ℕ) (place : ℕ) → length costs ≡ length names
+    → slice_get costs place ≡ option_map (λ cost. cost.1) (slice_get (zip names costs) place)
+slice_get-costs [] [] place even = refl
+slice_get-costs [] (first ∷ costs) place even = absurd (omega arith)
+slice_get-costs (name ∷ names) [] place even = absurd (omega arith)
+slice_get-costs (name ∷ names) (first ∷ costs) zero even = refl
+slice_get-costs (name ∷ names) (first ∷ costs) (suc place) even = slice_get-costs names costs place (omega arith)
+
+-- beside a name there is a cost
+none_beside : (names : List Name) (costs : List ℕ) (place : ℕ) (name : Name) → length costs ≡ length names
+    → slice_get names place ≡ Some name → slice_get costs place ≡ None → ⊥
+none_beside [] costs place name even there none = cc
+none_beside (first ∷ names) [] place name even there none = omega arith
+none_beside (first ∷ names) (one ∷ costs) zero name even there none = cc
+none_beside (first ∷ names) (one ∷ costs) (suc place) name even there none =
+    none_beside names costs place name (omega arith) there none
+
+-- a guess at the place of a name is what is told of it
+pub guess_told : (names : List Name) (costs : List ℕ) (told : Costs) (guess : Guess) (name dst : Name)
+    → zip names costs ≡ told → length costs ≡ length names → IsStrictlySortedBy name_cmp names
+    → slice_get names guess.place ≡ Some name → same_name name dst ≡ true → IsGuess told guess
+    → guess.cost ≡ cost_to told dst
+guess_told names costs told guess name dst is even rise there same right = by (slice_get costs guess.place) refl
+  where
+    read : guess.cost ≡ slice_get costs guess.place
+    read =
+        right
+        ∙ sym (slice_get-costs names costs guess.place even
+        ∙ ap (λ all. option_map (λ cost. cost.1) (slice_get all guess.place)) is)
+
+    by : (found : Option ℕ) → slice_get costs guess.place ≡ found → guess.cost ≡ cost_to told dst
+    by (Some cost) beside =
+        read ∙ (beside ∙ sym (cost_beside names costs told guess.place name cost dst is even rise there beside same))
+    by None beside = absurd (none_beside names costs guess.place name even there beside)
