@@ -1,5 +1,6 @@
 -- Reading a constraint against the grammar of constraints, and lists that aren't empty.
-use Rattle.std.proofs.Common.{◌≡◌, ℕ, List, [], ◌∷◌, Option, Some, None, Result, Ok, Err, IfOk, refl, sym, length, nat_eq, false}
+use Rattle.std.proofs.Common.{◌≡◌, ℕ, List, [], ◌∷◌, Option, Some, None, Result, Ok, Err, IfOk, refl, sym, length}
+use Rattle.std.proofs.Common.{nat_eq, false}
 use Rattle.std.specs.Result.{result_ok}
 use Rattle.json_tree.specs.declared.tree.Tree.{Tree}
 use Rattle.json_tree.specs.Tree.{items_data}
@@ -24,6 +25,7 @@ read_as_spelled text (Err fault) spells only = by (spelled text) refl
     by (Some constraint) e = let ok : Err fault ≡ Ok constraint = only constraint (spelled-read text constraint e) in cc
 
 -- a list with an item is a fault
-pub lists_fault : (trees : List Tree) → nat_eq (length trees) 0 ≡ false → no_lists (items_data trees) ≡ Err (wrong_value or_field)
+pub lists_fault : (trees : List Tree) → nat_eq (length trees) 0 ≡ false
+    → no_lists (items_data trees) ≡ Err (wrong_value or_field)
 lists_fault [] some = cc
 lists_fault (tree ∷ trees) some = refl

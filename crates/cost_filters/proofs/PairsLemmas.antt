@@ -1,9 +1,11 @@
 -- The costs of pairs by column are those of the pairs one by one.
-use Rattle.std.proofs.Common.{◌≡◌, ◌∙◌, ◌+◌, ◌<◌, ℕ, zero, suc, ◌-◌, ◌++◌, refl, ap, sym, arith, append_assoc, length, get_or}
+use Rattle.std.proofs.Common.{◌≡◌, ◌∙◌, ◌+◌, ◌<◌, ℕ, zero, suc, ◌-◌, ◌++◌, refl, ap, sym, arith, append_assoc, length}
+use Rattle.std.proofs.Common.{get_or}
 use Rattle.std.proofs.lemmas.Bool.{or_right}
 use Rattle.std.proofs.lemmas.Bool.Decides.{nat_tests}
 use Rattle.std.proofs.lemmas.Simd.{map-map}
-use Rattle.std.specs.Prelude.{Bool, true, false, nat_eq, List, [], ◌∷◌, Option, Some, None, is_some, map, option_map, slice_get, unwrap_or}
+use Rattle.std.specs.Prelude.{Bool, true, false, nat_eq, List, [], ◌∷◌, Option, Some, None, is_some, map, option_map}
+use Rattle.std.specs.Prelude.{slice_get, unwrap_or}
 use Rattle.std.specs.List.{list_any, range_with_len}
 use Rattle.alto_rows.specs.Rows.{Rows}
 use Rattle.alto_maps.specs.Shape.{Name}
@@ -16,13 +18,15 @@ use Rattle.cost_filters.specs.declared.types.CostType.{CostType}
 use Rattle.cost_filters.specs.Columns.{column_cost, columns_of, scaled}
 use Rattle.cost_filters.specs.Filter.{costs_of, tested_costs}
 use Rattle.cost_filters.specs.Holds.{all_hold, one_holds}
-use Rattle.cost_filters.specs.Pairs.{PairsData, Table, cost_shown, costs_at, costs_shown, if_there, is_shown, one_is_empty, pair_costs, told_from, tested_from}
+use Rattle.cost_filters.specs.Pairs.{PairsData, Table, cost_shown, costs_at, costs_shown, if_there, is_shown}
+use Rattle.cost_filters.specs.Pairs.{one_is_empty, pair_costs, told_from, tested_from}
 use Rattle.cost_filters.proofs.FilterLemmas.{columns_tell}
 
 -- ---- one column
 
 -- the place of a list
-at_place : (f : Name → Option ℕ) (dsts : List Name) (at : ℕ) (d : Name) → at < length dsts → if_there (slice_get (map f dsts) at) ≡ f (get_or dsts at d)
+at_place : (f : Name → Option ℕ) (dsts : List Name) (at : ℕ) (d : Name) → at < length dsts
+    → if_there (slice_get (map f dsts) at) ≡ f (get_or dsts at d)
 at_place f [] at d within = absurd (omega arith)
 at_place f (dst ∷ dsts) zero d within = refl
 at_place f (dst ∷ dsts) (suc at) d within = at_place f dsts at d (omega arith)
@@ -39,36 +43,45 @@ pub costs_told : (rows : Rows) (tables : Tables) (net metric src : Name) (dsts :
 costs_told rows tables net metric src dsts costs = λ i. map (λ dst. costs net metric src dst i) dsts
 
 -- the costs of a column, as they are told
-pub column_told : (rows : Rows) (tables : Tables) (net src : Name) (column : Column) (dsts : List Name) → AreCostsOf rows tables
-    → map (option_map (scaled column.scale)) (map (cost_in tables net column.metric src) dsts) ≡ map (λ dst. column_cost rows net src dst column) dsts
+pub column_told : (rows : Rows) (tables : Tables) (net src : Name) (column : Column) (dsts : List Name)
+    → AreCostsOf rows tables
+    → map (option_map (scaled column.scale)) (map (cost_in tables net column.metric src) dsts)
+    ≡ map (λ dst. column_cost rows net src dst column) dsts
 column_told rows tables net src column dsts costs =
     ap (map (option_map (scaled column.scale))) (costs_told rows tables net column.metric src dsts costs)
     ∙ map-map (option_map (scaled column.scale)) (λ dst. cost_of rows net column.metric src dst) dsts
 
 -- ---- all columns at a place
 
-told_at : (rows : Rows) (net src : Name) (columns : List Column) (dsts : List Name) (at : ℕ) (d : Name) → at < length dsts
+told_at : (rows : Rows) (net src : Name) (columns : List Column) (dsts : List Name) (at : ℕ) (d : Name)
+    → at < length dsts
     → costs_at at (told_from rows net columns src dsts) ≡ map (column_cost rows net src (get_or dsts at d)) columns
 told_at rows net src [] dsts at d within = refl
 told_at rows net src (column ∷ columns) dsts at d within =
-    λ i. at_place (λ dst. column_cost rows net src dst column) dsts at d within i ∷ told_at rows net src columns dsts at d within i
+    λ i. at_place (λ dst. column_cost rows net src dst column) dsts at d within i ∷ told_at rows net src columns
+    dsts at d within i
 
-tested_at : (rows : Rows) (net src : Name) (types : List CostType) (dsts : List Name) (at : ℕ) (d : Name) → at < length dsts
+tested_at : (rows : Rows) (net src : Name) (types : List CostType) (dsts : List Name) (at : ℕ) (d : Name)
+    → at < length dsts
     → costs_at at (tested_from rows net types src dsts) ≡ tested_costs rows net types src (get_or dsts at d)
 tested_at rows net src [] dsts at d within = refl
 tested_at rows net src (type ∷ types) dsts at d within =
-    λ i. at_place (λ dst. cost_of rows net type.metric src dst) dsts at d within i ∷ tested_at rows net src types dsts at d within i
+    λ i. at_place (λ dst. cost_of rows net type.metric src dst) dsts at d within i ∷ tested_at rows net src types
+    dsts at d within i
 
 -- ---- constraints
 
 -- a list without a constraint holds of every pair
-pub empty_holds : (costs : List (Option ℕ)) (alternatives : List (List Constraint)) → one_is_empty alternatives ≡ true → one_holds costs alternatives ≡ true
+pub empty_holds : (costs : List (Option ℕ)) (alternatives : List (List Constraint)) → one_is_empty alternatives ≡ true
+    → one_holds costs alternatives ≡ true
 empty_holds costs [] h = cc
 empty_holds costs ([] ∷ alternatives) h = refl
 empty_holds costs ((constraint ∷ constraints) ∷ alternatives) h =
-    or_right (all_hold costs (constraint ∷ constraints)) (one_holds costs alternatives) (empty_holds costs alternatives (rw (not_empty constraint constraints) at h))
+    or_right (all_hold costs (constraint ∷ constraints)) (one_holds costs alternatives)
+    (empty_holds costs alternatives (rw (not_empty constraint constraints) at h))
   where
-    not_empty : (constraint : Constraint) (constraints : List Constraint) → nat_eq (length (constraint ∷ constraints)) 0 ≡ false
+    not_empty : (constraint : Constraint) (constraints : List Constraint)
+        → nat_eq (length (constraint ∷ constraints)) 0 ≡ false
     not_empty constraint constraints = grind (arith, nat_tests)
 
 -- ---- pairs
@@ -78,28 +91,34 @@ abbrev shown_at : List (List Constraint) → Table → Table → ℕ → Option 
 shown_at alternatives told tested at = cost_shown told at (is_shown alternatives told tested at)
 
 -- the pair at a place of the costs is that of the destination there
-shown_there : (pairs : PairsData) (src : Name) (dsts : List Name) (told tested : Table) (at : ℕ) (d : Name) → at < length dsts
+shown_there : (pairs : PairsData) (src : Name) (dsts : List Name) (told tested : Table) (at : ℕ) (d : Name)
+    → at < length dsts
     → costs_at at told ≡ costs_of pairs.rows pairs.net pairs.types src (get_or dsts at d)
-    → (one_is_empty pairs.alternatives ≡ false → costs_at at tested ≡ tested_costs pairs.rows pairs.net pairs.tested src (get_or dsts at d))
+    → (one_is_empty pairs.alternatives ≡ false
+    → costs_at at tested ≡ tested_costs pairs.rows pairs.net pairs.tested src (get_or dsts at d))
     → shown_at pairs.alternatives told tested at ≡ pair_costs pairs src (get_or dsts at d)
 shown_there pairs src dsts told tested at d within costs tests = by (one_is_empty pairs.alternatives) refl
   where
-    by : (b : Bool) → one_is_empty pairs.alternatives ≡ b → shown_at pairs.alternatives told tested at ≡ pair_costs pairs src (get_or dsts at d)
+    by : (b : Bool) → one_is_empty pairs.alternatives ≡ b
+        → shown_at pairs.alternatives told tested at ≡ pair_costs pairs src (get_or dsts at d)
     by true e =
-        let holds : one_holds (tested_costs pairs.rows pairs.net pairs.tested src (get_or dsts at d)) pairs.alternatives ≡ true =
+        let holds : one_holds (tested_costs pairs.rows pairs.net pairs.tested src (get_or dsts at d)) pairs.alternatives
+        ≡ true =
         empty_holds (tested_costs pairs.rows pairs.net pairs.tested src (get_or dsts at d)) pairs.alternatives e in
         rw (costs, e, holds) refl
     by false e = rw (costs, e, tests e) refl
 
 -- what is made at each place of a list
-each_place : {A : Type 0} (g : ℕ → A) (f : Name → A) (names : List Name) (start : ℕ) → ((at : ℕ) (d : Name) → at < length names → g (start + at) ≡ f (get_or names at d))
+each_place : {A : Type 0} (g : ℕ → A) (f : Name → A) (names : List Name) (start : ℕ)
+    → ((at : ℕ) (d : Name) → at < length names → g (start + at) ≡ f (get_or names at d))
     → map g (range_with_len start (length names)) ≡ map f names
 each_place g f [] start each = refl
 each_place {A} g f (name ∷ names) start each =
     let here : g start ≡ f name = ap g (omega arith) ∙ each 0 name (omega arith) in
     let more : map g (range_with_len (start + 1) (length names)) ≡ map f names =
     each_place g f names (start + 1) (λ at d within. ap g (omega arith) ∙ each (suc at) d (omega arith)) in
-    ap (λ (one : A). one ∷ map g (range_with_len (start + 1) (length names))) here ∙ ap (λ (rest : List A). f name ∷ rest) more
+    ap (λ (one : A). one ∷ map g (range_with_len (start + 1) (length names))) here
+    ∙ ap (λ (rest : List A). f name ∷ rest) more
 
 zero_more : (at : ℕ) → 0 + at ≡ at
 zero_more at = omega arith
@@ -110,13 +129,16 @@ each_shown : (alternatives : List (List Constraint)) (told tested : Table) (star
     ≡ map (shown_at alternatives told tested) (range_with_len start count)
 each_shown alternatives told tested start zero = refl
 each_shown alternatives told tested start (suc count) =
-    ap (λ (more : List (Option (List (Option ℕ)))). shown_at alternatives told tested start ∷ more) (each_shown alternatives told tested (start + 1) count)
+    ap (λ (more : List (Option (List (Option ℕ)))). shown_at alternatives told tested start ∷ more)
+    (each_shown alternatives told tested (start + 1) count)
 
 -- the pairs at all places are those of the destinations
-pub all_pairs : (pairs : PairsData) (src : Name) (dsts : List Name) (columns : List Column) (told tested : Table) → columns ≡ columns_of pairs.rows pairs.net pairs.types
+pub all_pairs : (pairs : PairsData) (src : Name) (dsts : List Name) (columns : List Column) (told tested : Table)
+    → columns ≡ columns_of pairs.rows pairs.net pairs.types
     → told ≡ told_from pairs.rows pairs.net columns src dsts
     → (one_is_empty pairs.alternatives ≡ false → tested ≡ tested_from pairs.rows pairs.net pairs.tested src dsts)
-    → costs_shown told 0 (map (is_shown pairs.alternatives told tested) (range_with_len 0 (length dsts))) ≡ map (pair_costs pairs src) dsts
+    → costs_shown told 0 (map (is_shown pairs.alternatives told tested) (range_with_len 0 (length dsts)))
+    ≡ map (pair_costs pairs src) dsts
 all_pairs pairs src dsts columns told tested made costs tests =
     each_shown pairs.alternatives told tested 0 (length dsts)
     ∙ each_place (shown_at pairs.alternatives told tested) (pair_costs pairs src) dsts 0
@@ -125,19 +147,22 @@ all_pairs pairs src dsts columns told tested made costs tests =
     ∙ shown_there pairs src dsts told tested at d within
     (ap (costs_at at) costs
     ∙ (told_at pairs.rows pairs.net src columns dsts at d within
-    ∙ (ap (map (column_cost pairs.rows pairs.net src (get_or dsts at d))) made ∙ columns_tell pairs.rows pairs.net src (get_or dsts at d) pairs.types)))
+    ∙ (ap (map (column_cost pairs.rows pairs.net src (get_or dsts at d))) made
+    ∙ columns_tell pairs.rows pairs.net src (get_or dsts at d) pairs.types)))
     (λ none. ap (costs_at at) (tests none) ∙ tested_at pairs.rows pairs.net src pairs.tested dsts at d within))
 
 -- ---- steps of loops
 
 -- a column is added before those that are left
-pub column_more : (before left all : Table) (column is : List (Option ℕ)) → column ≡ is → before ++ is ∷ left ≡ all → (before ++ column ∷ []) ++ left ≡ all
+pub column_more : (before left all : Table) (column is : List (Option ℕ)) → column ≡ is → before ++ is ∷ left ≡ all
+    → (before ++ column ∷ []) ++ left ≡ all
 column_more before left all column is same whole =
     append_assoc before (column ∷ []) left ∙ (ap (λ (one : List (Option ℕ)). before ++ one ∷ left) same ∙ whole)
 
 -- what is made at a place is added before the places that are left
 pub place_more : {A : Type 0} (g : ℕ → A) (before all : List A) (at count : ℕ) (one : A) → at < count → one ≡ g at
-    → before ++ map g (range_with_len at (count - at)) ≡ all → (before ++ one ∷ []) ++ map g (range_with_len (at + 1) (count - (at + 1))) ≡ all
+    → before ++ map g (range_with_len at (count - at)) ≡ all
+    → (before ++ one ∷ []) ++ map g (range_with_len (at + 1) (count - (at + 1))) ≡ all
 place_more {A} g before all at count one within is whole =
     let step : count - at ≡ suc (count - (at + 1)) = omega arith in
     append_assoc before (one ∷ []) (map g (range_with_len (at + 1) (count - (at + 1))))
@@ -147,23 +172,27 @@ place_more {A} g before all at count one within is whole =
 -- ---- what was found
 
 -- there is a pair where a place is shown
-pub any_shown : (told : Table) (at : ℕ) (shown : List Bool) → list_any (λ flag. flag) shown ≡ list_any (λ pair. is_some pair) (costs_shown told at shown)
+pub any_shown : (told : Table) (at : ℕ) (shown : List Bool)
+    → list_any (λ flag. flag) shown ≡ list_any (λ pair. is_some pair) (costs_shown told at shown)
 any_shown told at [] = refl
 any_shown told at (true ∷ shown) = refl
 any_shown told at (false ∷ shown) = any_shown told (at + 1) shown
 
 -- what is found at a place
 at_flag : (told : Table) (start : ℕ) (shown : List Bool) (at : ℕ)
-    → if_there (slice_get (costs_shown told start shown) at) ≡ cost_shown told (start + at) (unwrap_or (slice_get shown at) false)
+    → if_there (slice_get (costs_shown told start shown) at)
+    ≡ cost_shown told (start + at) (unwrap_or (slice_get shown at) false)
 at_flag told start [] at = refl
-at_flag told start (flag ∷ shown) zero = let here : start ≡ start + 0 = omega arith in ap (λ n. cost_shown told n flag) here
+at_flag told start (flag ∷ shown) zero = let here : start ≡ start + 0 = omega arith in
+    ap (λ n. cost_shown told n flag) here
 at_flag told start (flag ∷ shown) (suc at) =
     let later : (start + 1) + at ≡ start + suc at = omega arith in
     at_flag told (start + 1) shown at ∙ ap (λ n. cost_shown told n (unwrap_or (slice_get shown at) false)) later
 
 pub found_there : (told : Table) (shown : List Bool) (at : ℕ)
     → if_there (slice_get (costs_shown told 0 shown) at) ≡ cost_shown told at (unwrap_or (slice_get shown at) false)
-found_there told shown at = at_flag told 0 shown at ∙ ap (λ n. cost_shown told n (unwrap_or (slice_get shown at) false)) (zero_more at)
+found_there told shown at = at_flag told 0 shown at
+    ∙ ap (λ n. cost_shown told n (unwrap_or (slice_get shown at) false)) (zero_more at)
 
 pub is_found : (told : Table) (at : ℕ) (flag : Bool) → flag ≡ is_some (cost_shown told at flag)
 is_found told at true = refl

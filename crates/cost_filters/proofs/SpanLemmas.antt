@@ -22,7 +22,8 @@ pub destinations_in_span : (rows : Rows) (net metric src : Name)
     → filter_map destination (rows_in rows (span.CostsFrom net metric src)) ≡ destinations_of rows net metric src
 destinations_in_span [] net metric src = refl
 destinations_in_span ((key.Cost of kind from dst, v) ∷ rows) net metric src =
-    by (same_name net of) (same_name metric kind) (same_name src from) refl refl refl (destinations_in_span rows net metric src)
+    by (same_name net of) (same_name metric kind) (same_name src from) refl refl
+    refl (destinations_in_span rows net metric src)
   where
     by : (a b c : Bool) → same_name net of ≡ a → same_name metric kind ≡ b → same_name src from ≡ c
         → filter_map destination (rows_in rows (span.CostsFrom net metric src)) ≡ destinations_of rows net metric src

@@ -2,7 +2,8 @@
 use Rattle.std.proofs.Common.{◌≡◌, ◌<◌, ◌∙◌, ◌+◌, ℕ, zero, suc, refl, ap, sym, subst, arith, append-nil, drop, length}
 use Rattle.std.proofs.lemmas.List.Kept.{IsStrictlySortedBy-filter}
 use Rattle.std.proofs.lemmas.Map.Text.{is_eq-slice_cmp}
-use Rattle.std.specs.Prelude.{Bool, true, false, ◌||◌, cond, List, [], ◌∷◌, ◌++◌, filter, map, Option, Some, None, is_some, option_map, slice_get, codes}
+use Rattle.std.specs.Prelude.{Bool, true, false, ◌||◌, cond, List, [], ◌∷◌, ◌++◌, filter, map, Option, Some, None}
+use Rattle.std.specs.Prelude.{is_some, option_map, slice_get, codes}
 use Rattle.std.specs.Cmp.Lexicographic.{slice_cmp}
 use Rattle.std.specs.List.{cons_option, list_any}
 use Rattle.std.specs.List.Sorted.{IsStrictlySortedBy}
@@ -32,9 +33,11 @@ use Rattle.cost_docs.specs.CostMap.{destinations_of}
 use Rattle.cost_docs.proofs.OrderLemmas.{destinations_rise}
 use Rattle.cost_filters.specs.declared.columns.Column.{Column}
 use Rattle.cost_filters.specs.Ask.{CostAskData}
-use Rattle.cost_filters.specs.Columns.{columns_of, dsts_tried, group_value, has_member, object_if_any, pair_value, reached, srcs_tried, valued}
+use Rattle.cost_filters.specs.Columns.{columns_of, dsts_tried, group_value, has_member, object_if_any, pair_value}
+use Rattle.cost_filters.specs.Columns.{reached, srcs_tried, valued}
 use Rattle.cost_filters.specs.Filter.{costs_data, costs_of, filtered_face, is_pair, types_name}
-use Rattle.cost_filters.specs.Names.{AreSetIfAny, IsSetOf, names_given}
+use Rattle.cost_tables.specs.Tables.{IsSetOf}
+use Rattle.cost_filters.specs.Names.{AreSetIfAny, names_given}
 use Rattle.cost_filters.specs.Pairs.{PairsData, group_shown, if_there, pair_shown, pairs_of}
 use Rattle.cost_filters.specs.Text.{AddsIfAny, found_object, group_made, shown_members}
 use Rattle.cost_filters.proofs.FilterLemmas.{groups_shown}
@@ -43,18 +46,23 @@ use Rattle.cost_filters.proofs.ValuedLemmas.{found-valued, has_some, in_order-me
 -- ---- members of rising names
 
 -- the names that have a value
-names_valued : (value : Name → Option Data) (names : List Name) → names_of (members_in_order (valued value names)) ≡ filter (λ name. is_some (value name)) names
+names_valued : (value : Name → Option Data) (names : List Name)
+    → names_of (members_in_order (valued value names)) ≡ filter (λ name. is_some (value name)) names
 names_valued value [] = refl
 names_valued value (name ∷ names) = by (value name) refl (names_valued value names)
   where
-    by : (found : Option Data) → value name ≡ found → names_of (members_in_order (valued value names)) ≡ filter (λ name. is_some (value name)) names
-        → names_of (members_in_order (valued value (name ∷ names))) ≡ filter (λ name. is_some (value name)) (name ∷ names)
+    by : (found : Option Data) → value name ≡ found
+        → names_of (members_in_order (valued value names)) ≡ filter (λ name. is_some (value name)) names
+        → names_of (members_in_order (valued value (name ∷ names)))
+        ≡ filter (λ name. is_some (value name)) (name ∷ names)
     by None e below = rw e below
     by (Some d) e below = rw e (ap (λ (more : List Name). name ∷ more) below)
 
-in_order_valued : (value : Name → Option Data) (names : List Name) → Rise names → AreInOrder (members_in_order (valued value names))
+in_order_valued : (value : Name → Option Data) (names : List Name) → Rise names
+    → AreInOrder (members_in_order (valued value names))
 in_order_valued value names rise =
-    subst Rise (sym (names_valued value names)) (IsStrictlySortedBy-filter (slice_cmp nat_cmp) (λ name. is_some (value name)) names rise)
+    subst Rise (sym (names_valued value names))
+    (IsStrictlySortedBy-filter (slice_cmp nat_cmp) (λ name. is_some (value name)) names rise)
 
 same_either : (b : Bool) (value : Option Data) → cond b value value ≡ value
 same_either true value = refl
@@ -63,33 +71,42 @@ same_either false value = refl
 found_listed : (value : Name → Option Data) (names : List Name) (q : Name)
     → get_member q (members_in_order (valued value names)) ≡ cond (list_any (same_name q) names) (value q) None
 found_listed value [] q = refl
-found_listed value (name ∷ names) q = by (value name) refl (slice_cmp nat_cmp q name) refl (sym (is_eq-slice_cmp q name)) (found_listed value names q)
+found_listed value (name ∷ names) q =
+    by (value name) refl (slice_cmp nat_cmp q name) refl (sym (is_eq-slice_cmp q name)) (found_listed value names q)
   where
-    by : (found : Option Data) → value name ≡ found → (o : Ordering) → slice_cmp nat_cmp q name ≡ o → same_name q name ≡ is_eq (slice_cmp nat_cmp q name)
+    by : (found : Option Data) → value name ≡ found → (o : Ordering) → slice_cmp nat_cmp q name ≡ o
+        → same_name q name ≡ is_eq (slice_cmp nat_cmp q name)
         → get_member q (members_in_order (valued value names)) ≡ cond (list_any (same_name q) names) (value q) None
-        → get_member q (members_in_order (valued value (name ∷ names))) ≡ cond (same_name q name || list_any (same_name q) names) (value q) None
+        → get_member q (members_in_order (valued value (name ∷ names)))
+        ≡ cond (same_name q name || list_any (same_name q) names) (value q) None
     by None e Less is same rest = rw (e, same, is) rest
     by None e Equal is same rest =
-        let here : value q ≡ None = ap value (one_name q name is) ∙ e in rw (e, same, is) (rest ∙ rw here (same_either (list_any (same_name q) names) None))
+        let here : value q ≡ None = ap value (one_name q name is) ∙ e in
+        rw (e, same, is) (rest ∙ rw here (same_either (list_any (same_name q) names) None))
     by None e Greater is same rest = rw (e, same, is) rest
     by (Some d) e Less is same rest = rw (e, same, is) rest
-    by (Some d) e Equal is same rest = let here : value q ≡ Some d = ap value (one_name q name is) ∙ e in rw (e, same, is, here) refl
+    by (Some d) e Equal is same rest = let here : value q ≡ Some d = ap value (one_name q name is) ∙ e in
+        rw (e, same, is, here) refl
     by (Some d) e Greater is same rest = rw (e, same, is) rest
 
 -- an object of values of rising names has its members as they stand
-pub listed_valued : (value : Name → Option Data) (names : List Name) → Rise names → members_of (valued value names) ≡ members_in_order (valued value names)
+pub listed_valued : (value : Name → Option Data) (names : List Name) → Rise names
+    → members_of (valued value names) ≡ members_in_order (valued value names)
 listed_valued value names rise =
-    same_members _ _ (in_order-members_of (valued value names)) (in_order_valued value names rise) (λ q. found-valued value names q ∙ sym (found_listed value names q))
+    same_members _ _ (in_order-members_of (valued value names)) (in_order_valued value names rise)
+    (λ q. found-valued value names q ∙ sym (found_listed value names q))
 
 -- ---- names in byte order, each once
 
-pub set_members : (value : Name → Option Data) (names all : List Name) → IsSetOf names all → members_of (valued value names) ≡ members_of (valued value all)
+pub set_members : (value : Name → Option Data) (names all : List Name) → IsSetOf names all
+    → members_of (valued value names) ≡ members_of (valued value all)
 set_members value names all set =
     same_members _ _ (in_order-members_of (valued value names)) (in_order-members_of (valued value all))
     (λ q. found-valued value names q ∙ (ap (λ b. cond b (value q) None) (set.same q) ∙ sym (found-valued value all q)))
 
 -- their object is that of the names that they are
-pub set_object : (value : Name → Option Data) (names all : List Name) → IsSetOf names all → object_if_any (valued value names) ≡ object_if_any (valued value all)
+pub set_object : (value : Name → Option Data) (names all : List Name) → IsSetOf names all
+    → object_if_any (valued value names) ≡ object_if_any (valued value all)
 set_object value names all set =
     let same : members_of (valued value names) ≡ members_of (valued value all) = set_members value names all set in
     let any : has_member (valued value names) ≡ has_member (valued value all) =
@@ -99,17 +116,24 @@ set_object value names all set =
 -- the set of names is one of what they are
 pub set_is : (set names all : List Name) → set ≡ set_of names → names ≡ all → IsSetOf set all
 set_is set names all is same =
-    record { rise = subst Rise (sym is) (rise-set_of names); same = λ q. ap (list_any (same_name q)) is ∙ (any-set_of q names ∙ ap (list_any (same_name q)) same) }
+    record {
+      rise = subst Rise (sym is) (rise-set_of names);
+      same = λ q. ap (list_any (same_name q)) is
+          ∙ (any-set_of q names ∙ ap (list_any (same_name q)) same);
+    }
 
 -- names that rise are one of themselves
 pub rising_set : (names all : List Name) → names ≡ all → Rise all → IsSetOf names all
 rising_set names all is rise = record { rise = subst Rise (sym is) rise; same = λ q. ap (list_any (same_name q)) is }
 
 -- the destinations in less than two columns rise
-pub few_rise : (rows : Rows) (net : Name) (columns : List Column) (src : Name) → AreSorted rows → length columns < 2 → Rise (reached rows net columns src)
+pub few_rise : (rows : Rows) (net : Name) (columns : List Column) (src : Name) → AreSorted rows → length columns < 2
+    → Rise (reached rows net columns src)
 unfolding IsStrictlySortedBy
 few_rise rows net [] src sorted few = tt
-few_rise rows net (column ∷ []) src sorted few = subst Rise (sym (append-nil (destinations_of rows net column.metric src))) (destinations_rise net column.metric src rows sorted)
+few_rise rows net (column ∷ []) src sorted few =
+    subst Rise (sym (append-nil (destinations_of rows net column.metric src)))
+    (destinations_rise net column.metric src rows sorted)
 few_rise rows net (column ∷ other ∷ columns) src sorted few = absurd (omega arith)
 
 -- ---- one group
@@ -119,18 +143,24 @@ pub shown_by : (f : Name → Option (List (Option ℕ))) (multi : Bool) (dsts : 
 shown_by f multi [] = refl
 shown_by f multi (dst ∷ dsts) = by (f dst) refl (shown_by f multi dsts)
   where
-    by : (found : Option (List (Option ℕ))) → f dst ≡ found → shown_members multi dsts (map f dsts) ≡ valued (λ dst. option_map (costs_data multi) (f dst)) dsts
-        → shown_members multi (dst ∷ dsts) (map f (dst ∷ dsts)) ≡ valued (λ dst. option_map (costs_data multi) (f dst)) (dst ∷ dsts)
+    by : (found : Option (List (Option ℕ))) → f dst ≡ found
+        → shown_members multi dsts (map f dsts) ≡ valued (λ dst. option_map (costs_data multi) (f dst)) dsts
+        → shown_members multi (dst ∷ dsts) (map f (dst ∷ dsts))
+        ≡ valued (λ dst. option_map (costs_data multi) (f dst)) (dst ∷ dsts)
     by None e below = rw e below
     by (Some costs) e below = rw e (ap (λ (more : List (Name × Data)). (dst, costs_data multi costs) ∷ more) below)
 
 any_by : (f : Name → Option (List (Option ℕ))) (multi : Bool) (dsts : List Name)
-    → list_any (λ pair. is_some pair) (map f dsts) ≡ has_member (valued (λ dst. option_map (costs_data multi) (f dst)) dsts)
+    → list_any (λ pair. is_some pair) (map f dsts)
+    ≡ has_member (valued (λ dst. option_map (costs_data multi) (f dst)) dsts)
 any_by f multi [] = refl
 any_by f multi (dst ∷ dsts) = by (f dst) refl (any_by f multi dsts)
   where
-    by : (found : Option (List (Option ℕ))) → f dst ≡ found → list_any (λ pair. is_some pair) (map f dsts) ≡ has_member (valued (λ dst. option_map (costs_data multi) (f dst)) dsts)
-        → list_any (λ pair. is_some pair) (map f (dst ∷ dsts)) ≡ has_member (valued (λ dst. option_map (costs_data multi) (f dst)) (dst ∷ dsts))
+    by : (found : Option (List (Option ℕ))) → f dst ≡ found
+        → list_any (λ pair. is_some pair) (map f dsts)
+        ≡ has_member (valued (λ dst. option_map (costs_data multi) (f dst)) dsts)
+        → list_any (λ pair. is_some pair) (map f (dst ∷ dsts))
+        ≡ has_member (valued (λ dst. option_map (costs_data multi) (f dst)) (dst ∷ dsts))
     by None e below = rw e below
     by (Some costs) e below = rw e refl
 
@@ -138,47 +168,60 @@ any_by f multi (dst ∷ dsts) = by (f dst) refl (any_by f multi dsts)
 pub object_found : (f : Name → Option (List (Option ℕ))) (multi : Bool) (dsts : List Name) → Rise dsts
     → found_object multi dsts (map f dsts) ≡ object_if_any (valued (λ dst. option_map (costs_data multi) (f dst)) dsts)
 object_found f multi dsts rise =
-    let same : members_in_order (shown_members multi dsts (map f dsts)) ≡ members_of (valued (λ dst. option_map (costs_data multi) (f dst)) dsts) =
-    ap members_in_order (shown_by f multi dsts) ∙ sym (listed_valued (λ dst. option_map (costs_data multi) (f dst)) dsts rise) in
+    let same : members_in_order (shown_members multi dsts (map f dsts))
+    ≡ members_of (valued (λ dst. option_map (costs_data multi) (f dst)) dsts) =
+    ap members_in_order (shown_by f multi dsts)
+    ∙ sym (listed_valued (λ dst. option_map (costs_data multi) (f dst)) dsts rise) in
     λ i. cond (any_by f multi dsts i) (Some (object (same i))) None
 
 -- ---- all groups
 
-option_cond : {A B : Type 0} (f : A → B) (b : Bool) (x : A) → option_map f (cond b (Some x) None) ≡ cond b (Some (f x)) None
+option_cond : {A B : Type 0} (f : A → B) (b : Bool) (x : A)
+    → option_map f (cond b (Some x) None) ≡ cond b (Some (f x)) None
 option_cond f true x = refl
 option_cond f false x = refl
 
 -- a pair has its value
-pub pair_is : (rows : Rows) (net : Name) (ask : CostAskData) (src dst : Name) → pair_shown ask.multi (pairs_of rows net ask) src dst ≡ pair_value rows net ask src dst
-pair_is rows net ask src dst = option_cond (costs_data ask.multi) (is_pair rows net ask src dst) (costs_of rows net ask.types src dst)
+pub pair_is : (rows : Rows) (net : Name) (ask : CostAskData) (src dst : Name)
+    → pair_shown ask.multi (pairs_of rows net ask) src dst ≡ pair_value rows net ask src dst
+pair_is rows net ask src dst =
+    option_cond (costs_data ask.multi) (is_pair rows net ask src dst) (costs_of rows net ask.types src dst)
 
-group_is : (rows : Rows) (net : Name) (ask : CostAskData) (src : Name) → group_shown ask.multi ask.dsts (pairs_of rows net ask) src ≡ group_value rows net ask src
+group_is : (rows : Rows) (net : Name) (ask : CostAskData) (src : Name)
+    → group_shown ask.multi ask.dsts (pairs_of rows net ask) src ≡ group_value rows net ask src
 group_is rows net ask src =
-    λ i. object_if_any (valued (λ dst. pair_is rows net ask src dst i) (dsts_tried rows net (columns_of rows net ask.types) ask.dsts src))
+    λ i. object_if_any (valued (λ dst. pair_is rows net ask src dst i)
+    (dsts_tried rows net (columns_of rows net ask.types) ask.dsts src))
 
 -- by the names that are given
-given_is : (multi : Bool) (picks : Pick) (pairs : PairsData) (src : Name) → group_made multi (names_given picks) pairs src ≡ group_shown multi picks pairs src
+given_is : (multi : Bool) (picks : Pick) (pairs : PairsData) (src : Name)
+    → group_made multi (names_given picks) pairs src ≡ group_shown multi picks pairs src
 given_is multi pick.All pairs src = refl
-given_is multi (pick.Only names) pairs src = set_object (pair_shown multi pairs src) (set_of names) names (set_is (set_of names) names names refl refl)
+given_is multi (pick.Only names) pairs src =
+    set_object (pair_shown multi pairs src) (set_of names) names (set_is (set_of names) names names refl refl)
 
 pub given_rise : (picks : Pick) → AreSetIfAny (names_given picks)
 given_rise pick.All = tt
 given_rise (pick.Only names) = rise-set_of names
 
 -- the groups of the sources in byte order are those of the filtered map
-pub section_is : (rows : Rows) (net : Name) (ask : CostAskData) (srcs : List Name) → AreGood rows → IsSetOf srcs (srcs_tried rows net ask.srcs)
-    → object (members_in_order (valued (group_made ask.multi (names_given ask.dsts) (pairs_of rows net ask)) srcs)) ≡ section_object (filtered_face rows net ask)
+pub section_is : (rows : Rows) (net : Name) (ask : CostAskData) (srcs : List Name) → AreGood rows
+    → IsSetOf srcs (srcs_tried rows net ask.srcs)
+    → object (members_in_order (valued (group_made ask.multi (names_given ask.dsts) (pairs_of rows net ask)) srcs))
+    ≡ section_object (filtered_face rows net ask)
 section_is rows net ask srcs good set =
     (λ i. object (members_in_order (valued (λ src. given_is ask.multi ask.dsts (pairs_of rows net ask) src i) srcs)))
     ∙ (ap object
     (sym (listed_valued (group_shown ask.multi ask.dsts (pairs_of rows net ask)) srcs set.rise)
     ∙ set_members (group_shown ask.multi ask.dsts (pairs_of rows net ask)) srcs (srcs_tried rows net ask.srcs) set)
-    ∙ ((λ i. object_of (valued (λ src. group_is rows net ask src i) (srcs_tried rows net ask.srcs))) ∙ groups_shown rows net ask good))
+    ∙ ((λ i. object_of (valued (λ src. group_is rows net ask src i) (srcs_tried rows net ask.srcs)))
+    ∙ groups_shown rows net ask good))
 
 -- ---- the meta
 
 -- two members one after another
-two_members : (k l : Name) (d e : Data) (old mid new : Written) → AddsMember k d old mid → AddsMember l e mid new → AddsMembers (member k d (member l e no_members)) old new
+two_members : (k l : Name) (d e : Data) (old mid new : Written) → AddsMember k d old mid → AddsMember l e mid new
+    → AddsMembers (member k d (member l e no_members)) old new
 two_members k l d e old mid new first second =
     record {
       tokens = member_more l e no_members mid new second ∙ member_more k d (member l e no_members) old mid first;
@@ -186,31 +229,41 @@ two_members k l d e old mid new first second =
     }
 
 -- of several types, whose name comes behind that of the tags
-pub meta_multi : (multi : Bool) (types tags : Data) (old mid new : Written) → multi ≡ true → AddsMember (codes "dependent-vtags") tags old mid
-    → AddsMember (types_name multi) types mid new → AddsMembers (members_of ((types_name multi, types) ∷ (codes "dependent-vtags", tags) ∷ [])) old new
+pub meta_multi : (multi : Bool) (types tags : Data) (old mid new : Written) → multi ≡ true
+    → AddsMember (codes "dependent-vtags") tags old mid
+    → AddsMember (types_name multi) types mid new
+    → AddsMembers (members_of ((types_name multi, types) ∷ (codes "dependent-vtags", tags) ∷ [])) old new
 unfolding with_member
-meta_multi true types tags old mid new is first second = two_members (codes "dependent-vtags") (types_name true) tags types old mid new first second
+meta_multi true types tags old mid new is first second =
+    two_members (codes "dependent-vtags") (types_name true) tags types old mid new first second
 meta_multi false types tags old mid new is first second = cc
 
 -- of one
-pub meta_single : (multi : Bool) (types tags : Data) (old mid new : Written) → multi ≡ false → AddsMember (types_name multi) types old mid
-    → AddsMember (codes "dependent-vtags") tags mid new → AddsMembers (members_of ((types_name multi, types) ∷ (codes "dependent-vtags", tags) ∷ [])) old new
+pub meta_single : (multi : Bool) (types tags : Data) (old mid new : Written) → multi ≡ false
+    → AddsMember (types_name multi) types old mid
+    → AddsMember (codes "dependent-vtags") tags mid new
+    → AddsMembers (members_of ((types_name multi, types) ∷ (codes "dependent-vtags", tags) ∷ [])) old new
 unfolding with_member
 meta_single true types tags old mid new is first second = cc
-meta_single false types tags old mid new is first second = two_members (types_name false) (codes "dependent-vtags") types tags old mid new first second
+meta_single false types tags old mid new is first second =
+    two_members (types_name false) (codes "dependent-vtags") types tags old mid new first second
 
 -- ---- steps of loops
 
 -- what stands before the text stays
-pub any_before : (name : Name) (value : Option Data) (old new : Written) → AddsIfAny name value old new → new.before ≡ old.before
+pub any_before : (name : Name) (value : Option Data) (old new : Written) → AddsIfAny name value old new
+    → new.before ≡ old.before
 any_before name None old new added = added.before
 any_before name (Some d) old new added = added.before
 
 -- a member that was written if there is one, before those that are left
-pub any_more : (name : Name) (value : Option Data) (left : List (Name × Data)) (old new : Written) → AddsIfAny name value old new
+pub any_more : (name : Name) (value : Option Data) (left : List (Name × Data)) (old new : Written)
+    → AddsIfAny name value old new
     → new.tokens ++ members_tokens (members_outline (members_in_order left))
-    ≡ old.tokens ++ members_tokens (members_outline (members_in_order (cons_option (option_map (λ found. (name, found)) value) left)))
-any_more name None left old new added = ap (λ ts. ts ++ members_tokens (members_outline (members_in_order left))) added.tokens
+    ≡ old.tokens ++ members_tokens
+    (members_outline (members_in_order (cons_option (option_map (λ found. (name, found)) value) left)))
+any_more name None left old new added =
+    ap (λ ts. ts ++ members_tokens (members_outline (members_in_order left))) added.tokens
 any_more name (Some d) left old new added = member_more name d (members_in_order left) old new added
 
 none_left : (multi : Bool) (dsts : List Name) → shown_members multi dsts [] ≡ []
@@ -220,7 +273,8 @@ none_left multi (dst ∷ dsts) = refl
 -- what is found of the next destination, before that of the others
 shown_step : (multi : Bool) (dst : Name) (dsts : List Name) (found : List (Option (List (Option ℕ)))) (at : ℕ)
     → shown_members multi (dst ∷ dsts) (drop at found)
-    ≡ cons_option (option_map (λ d. (dst, d)) (option_map (costs_data multi) (if_there (slice_get found at)))) (shown_members multi dsts (drop (suc at) found))
+    ≡ cons_option (option_map (λ d. (dst, d)) (option_map (costs_data multi) (if_there (slice_get found at))))
+    (shown_members multi dsts (drop (suc at) found))
 shown_step multi dst dsts [] zero = sym (none_left multi dsts)
 shown_step multi dst dsts [] (suc at) = sym (none_left multi dsts)
 shown_step multi dst dsts (None ∷ found) zero = refl
@@ -228,20 +282,26 @@ shown_step multi dst dsts (Some costs ∷ found) zero = refl
 shown_step multi dst dsts (pair ∷ found) (suc at) = shown_step multi dst dsts found at
 
 -- the members of the destinations from the next on
-pub shown_next : (multi : Bool) (dst : Name) (dsts left : List Name) (found : List (Option (List (Option ℕ)))) (at : ℕ) → dsts ≡ dst ∷ left
+pub shown_next : (multi : Bool) (dst : Name) (dsts left : List Name) (found : List (Option (List (Option ℕ)))) (at : ℕ)
+    → dsts ≡ dst ∷ left
     → shown_members multi dsts (drop at found)
-    ≡ cons_option (option_map (λ d. (dst, d)) (option_map (costs_data multi) (if_there (slice_get found at)))) (shown_members multi left (drop (at + 1) found))
+    ≡ cons_option (option_map (λ d. (dst, d)) (option_map (costs_data multi) (if_there (slice_get found at))))
+    (shown_members multi left (drop (at + 1) found))
 shown_next multi dst dsts left found at step =
     let next : suc at ≡ at + 1 = omega arith in
     ap (λ (names : List Name). shown_members multi names (drop at found)) step
     ∙ (shown_step multi dst left found at
-    ∙ ap (λ n. cons_option (option_map (λ d. (dst, d)) (option_map (costs_data multi) (if_there (slice_get found at)))) (shown_members multi left (drop n found))) next)
+    ∙ ap (λ n. cons_option (option_map (λ d. (dst, d)) (option_map (costs_data multi) (if_there (slice_get found at))))
+    (shown_members multi left (drop n found))) next)
 
 -- the members that are left behind that of the next destination
-pub shown_more : (multi : Bool) (dst : Name) (dsts left : List Name) (found : List (Option (List (Option ℕ)))) (at : ℕ) (old new : Written) → dsts ≡ dst ∷ left
+pub shown_more : (multi : Bool) (dst : Name) (dsts left : List Name) (found : List (Option (List (Option ℕ)))) (at : ℕ)
+    (old new : Written) → dsts ≡ dst ∷ left
     → AddsIfAny dst (option_map (costs_data multi) (if_there (slice_get found at))) old new
     → new.tokens ++ members_tokens (members_outline (members_in_order (shown_members multi left (drop (at + 1) found))))
     ≡ old.tokens ++ members_tokens (members_outline (members_in_order (shown_members multi dsts (drop at found))))
 shown_more multi dst dsts left found at old new step added =
-    any_more dst (option_map (costs_data multi) (if_there (slice_get found at))) (shown_members multi left (drop (at + 1) found)) old new added
-    ∙ ap (λ ms. old.tokens ++ members_tokens (members_outline (members_in_order ms))) (sym (shown_next multi dst dsts left found at step))
+    any_more dst (option_map (costs_data multi) (if_there (slice_get found at)))
+    (shown_members multi left (drop (at + 1) found)) old new added
+    ∙ ap (λ ms. old.tokens ++ members_tokens (members_outline (members_in_order ms)))
+    (sym (shown_next multi dst dsts left found at step))

@@ -15,11 +15,13 @@ use Rattle.cost_filters.specs.Types.{item_count, metric_name, metric_named}
 -- a list of trees has as many items as trees
 pub count_of_trees : (trees : List Tree) → item_count (items_data trees) ≡ length trees
 count_of_trees [] = refl
-count_of_trees (tree ∷ trees) = let below : item_count (items_data trees) ≡ length trees = count_of_trees trees in rw below (omega arith)
+count_of_trees (tree ∷ trees) = let below : item_count (items_data trees) ≡ length trees = count_of_trees trees in
+    rw below (omega arith)
 
 -- a metric that the network doesn't have
 pub undeclared : (rows : Rows) (net field text metric : Name) → named is_metric_byte 32 text ≡ Ok metric
-    → has_row rows (key.Metric net metric) ≡ false → metric_named rows net field text ≡ Err (wrong_text (nested field metric_name) text)
+    → has_row rows (key.Metric net metric) ≡ false
+    → metric_named rows net field text ≡ Err (wrong_text (nested field metric_name) text)
 undeclared rows net field text metric names none =
     let same : metric ≡ text = named_is is_metric_byte 32 text metric names in
     let here : has_row rows (key.Metric net text) ≡ false = rw (sym same) none in

@@ -26,12 +26,16 @@ either None second = second
 either (Some value) second = Some value
 
 found_onto : (value : Name → Option Data) (before : Members) (names : List Name) (q : Name)
-    → get_member q (with_members before (valued value names)) ≡ either (cond (list_any (same_name q) names) (value q) None) (get_member q before)
+    → get_member q (with_members before (valued value names))
+    ≡ either (cond (list_any (same_name q) names) (value q) None) (get_member q before)
 found_onto value before [] q = refl
-found_onto value before (name ∷ names) q = by (value name) refl (same_name q name) refl (list_any (same_name q) names) refl (λ more. found_onto value more names q)
+found_onto value before (name ∷ names) q = by (value name) refl (same_name q name) refl (list_any (same_name q) names)
+    refl (λ more. found_onto value more names q)
   where
-    by : (found : Option Data) → value name ≡ found → (same : Bool) → same_name q name ≡ same → (among : Bool) → list_any (same_name q) names ≡ among
-        → ((more : Members) → get_member q (with_members more (valued value names)) ≡ either (cond (list_any (same_name q) names) (value q) None) (get_member q more))
+    by : (found : Option Data) → value name ≡ found → (same : Bool) → same_name q name ≡ same → (among : Bool)
+        → list_any (same_name q) names ≡ among
+        → ((more : Members) → get_member q (with_members more (valued value names))
+        ≡ either (cond (list_any (same_name q) names) (value q) None) (get_member q more))
         → get_member q (with_members before (valued value (name ∷ names)))
         ≡ either (cond (list_any (same_name q) (name ∷ names)) (value q) None) (get_member q before)
     by None e true s true a below =
@@ -40,13 +44,16 @@ found_onto value before (name ∷ names) q = by (value name) refl (same_name q n
         let here : value q ≡ None = ap value (one q name s) ∙ e in rw (e, s, here) (below before ∙ rw a refl)
     by None e false s among a below = rw (e, s) (below before)
     by (Some d) e true s true a below =
-        let here : value q ≡ Some d = ap value (one q name s) ∙ e in rw (e, s, here) (below (with_member name d before) ∙ rw (a, here) refl)
+        let here : value q ≡ Some d = ap value (one q name s) ∙ e in
+        rw (e, s, here) (below (with_member name d before) ∙ rw (a, here) refl)
     by (Some d) e true s false a below =
         let here : value q ≡ Some d = ap value (one q name s) ∙ e in
         rw (e, s, here) (below (with_member name d before) ∙ rw a (found-with q name d before ∙ rw s refl))
     by (Some d) e false s among a below =
-        let there : get_member q (with_member name d before) ≡ get_member q before = found-with q name d before ∙ rw s refl in
-        rw (e, s) (below (with_member name d before) ∙ ap (either (cond (list_any (same_name q) names) (value q) None)) there)
+        let there : get_member q (with_member name d before) ≡ get_member q before =
+        found-with q name d before ∙ rw s refl in
+        rw (e, s) (below (with_member name d before)
+        ∙ ap (either (cond (list_any (same_name q) names) (value q) None)) there)
 
 first_only : (found : Option Data) → either found None ≡ found
 first_only None = refl
@@ -55,11 +62,13 @@ first_only (Some value) = refl
 -- what an object of valued names has at a name
 pub found-valued : (value : Name → Option Data) (names : List Name) (q : Name)
     → get_member q (members_of (valued value names)) ≡ cond (list_any (same_name q) names) (value q) None
-found-valued value names q = found_onto value no_members names q ∙ first_only (cond (list_any (same_name q) names) (value q) None)
+found-valued value names q = found_onto value no_members names q
+    ∙ first_only (cond (list_any (same_name q) names) (value q) None)
 
 in_order_onto : (before : Members) (ms : List (Name × Data)) → AreInOrder before → AreInOrder (with_members before ms)
 in_order_onto before [] h = h
-in_order_onto before (m ∷ ms) h = in_order_onto (with_member m.0 m.1 before) ms (AreInOrder-with_member m.0 m.1 before h)
+in_order_onto before (m ∷ ms) h =
+    in_order_onto (with_member m.0 m.1 before) ms (AreInOrder-with_member m.0 m.1 before h)
 
 -- members stand in order
 pub in_order-members_of : (ms : List (Name × Data)) → AreInOrder (members_of ms)
@@ -76,7 +85,8 @@ some-put : (k : Name) (d : Data) (ms : Members) → has_some (put k d ms) ≡ tr
 some-put k d no_members = refl
 some-put k d (member l e ms) = by (slice_cmp nat_cmp k l)
   where
-    by : (o : Ordering) → has_some (match_ordering o (member k d (member l e ms)) (member l d ms) (member l e (put k d ms))) ≡ true
+    by : (o : Ordering)
+        → has_some (match_ordering o (member k d (member l e ms)) (member l d ms) (member l e (put k d ms))) ≡ true
     by Less = refl
     by Equal = refl
     by Greater = refl
@@ -85,7 +95,8 @@ some-with : (k : Name) (d : Data) (ms : Members) → has_some (with_member k d m
 unfolding with_member
 some-with k d ms = some-put k d ms
 
-some_onto : (before : Members) (ms : List (Name × Data)) → has_some before ≡ true → has_some (with_members before ms) ≡ true
+some_onto : (before : Members) (ms : List (Name × Data)) → has_some before ≡ true
+    → has_some (with_members before ms) ≡ true
 some_onto before [] h = h
 some_onto before (m ∷ ms) h = some_onto (with_member m.0 m.1 before) ms (some-with m.0 m.1 before)
 
@@ -99,7 +110,8 @@ abbrev pub outcome : Bool → Members → List (Name × Data) → Option Data
 outcome any before [] = cond any (Some (object before)) None
 outcome any before (m ∷ ms) = outcome true (with_member m.0 m.1 before) ms
 
-outcome_onto : (before : Members) (ms : List (Name × Data)) → outcome true before ms ≡ Some (object (with_members before ms))
+outcome_onto : (before : Members) (ms : List (Name × Data))
+    → outcome true before ms ≡ Some (object (with_members before ms))
 outcome_onto before [] = refl
 outcome_onto before (m ∷ ms) = outcome_onto (with_member m.0 m.1 before) ms
 

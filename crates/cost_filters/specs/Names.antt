@@ -1,18 +1,12 @@
 -- Names in byte order, each once.
-use Rattle.std.specs.Prelude.{◌≡◌, List, Option, Some, None, IfSome}
+use Rattle.std.specs.Prelude.{List, Option, Some, None, IfSome}
 use Rattle.std.specs.Cmp.Lexicographic.{slice_cmp}
-use Rattle.std.specs.List.{list_any}
 use Rattle.std.specs.List.Sorted.{IsStrictlySortedBy}
 use Rattle.std.specs.Ordering.{nat_cmp}
 use Rattle.alto_maps.specs.Places.{set_of}
-use Rattle.alto_maps.specs.Shape.{Name, same_name}
+use Rattle.alto_maps.specs.Shape.{Name}
 use Rattle.net_docs.specs.declared.ask.Pick.{Pick}
 use Rattle.net_docs.specs.declared.ask.Pick.TheVariants as pick
-
--- these names rise, and are those of a list
-pub record IsSetOf (names all : List Name) : Type 0 where
-  pub rise : IsStrictlySortedBy (slice_cmp nat_cmp) names
-  pub same : (q : Name) → list_any (same_name q) names ≡ list_any (same_name q) all
 
 -- the names that are given, in byte order, each once
 abbrev pub names_given : Pick → Option (List Name)

@@ -1,8 +1,8 @@
 //! Asked cost types made ready for many pairs.
 ghost use Rattle.std.specs.Prelude.{◌≡◌, IfOk, option_map};
 ghost use Rattle.alto_rows.specs.Good.{AreGood};
+ghost use Rattle.cost_tables.specs.Tables.{IsSetOf};
 ghost use Rattle.cost_filters.specs.Columns.{column_of, columns_of, reached, scale_of, scaled};
-ghost use Rattle.cost_filters.specs.Names.{IsSetOf};
 ghost use Rattle.cost_docs.specs.CostMap as map_spec;
 
 use crate::names::distinct;

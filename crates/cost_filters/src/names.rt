@@ -3,7 +3,8 @@ ghost use Rattle.std.specs.Prelude.{◌≡◌, IfOk, option_map};
 ghost use Rattle.alto_maps.specs.Places.{set_of};
 ghost use Rattle.alto_rows.specs.Good.{AreGood};
 ghost use Rattle.cost_filters.specs.Columns.{srcs_tried};
-ghost use Rattle.cost_filters.specs.Names.{IsSetOf, names_given};
+ghost use Rattle.cost_tables.specs.Tables.{IsSetOf};
+ghost use Rattle.cost_filters.specs.Names.{names_given};
 ghost use Rattle.net_docs.specs.NetworkMap as net_spec;
 
 use alto_names::{NetName, PidName};

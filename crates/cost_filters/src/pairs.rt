@@ -3,10 +3,9 @@ ghost use Rattle.std.specs.Prelude.{◌≡◌, false, IfOk, map};
 ghost use Rattle.std.specs.List.{range_with_len};
 ghost use Rattle.alto_rows.specs.Good.{AreGood};
 ghost use Rattle.alto_rows.specs.Rows.{Rows};
-ghost use Rattle.cost_tables.specs.Tables.{AreCostsOf};
+ghost use Rattle.cost_tables.specs.Tables.{AreCostsOf, IsSetOf};
 ghost use Rattle.cost_filters.specs.Columns.{columns_of, reached};
 ghost use Rattle.cost_filters.specs.Holds.{one_holds};
-ghost use Rattle.cost_filters.specs.Names.{IsSetOf};
 ghost use Rattle.cost_filters.specs.Pairs.{is_shown, one_is_empty, pair_costs, tested_from};
 
 use crate::columns::{Column, columns_of, reached_once};

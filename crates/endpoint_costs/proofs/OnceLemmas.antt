@@ -14,7 +14,8 @@ use Rattle.alto_maps.specs.Shape.{Name}
 use Rattle.cost_filters.specs.Constraints.{asked_tests}
 use Rattle.cost_filters.specs.Fields.{items_at, nested}
 use Rattle.cost_filters.specs.Types.{asked_types}
-use Rattle.endpoint_costs.specs.Ask.{ReadsAddr, ReadsAddrs, ReadsEnds, ReadsMember, ReadsText, ends_field, if_any, object_at}
+use Rattle.endpoint_costs.specs.Ask.{ReadsAddr, ReadsAddrs, ReadsEnds, ReadsMember, ReadsText, ends_field, if_any}
+use Rattle.endpoint_costs.specs.Ask.{object_at}
 use Rattle.endpoint_costs.specs.Laws.{AsksOnce}
 use Rattle.endpoint_costs.specs.Reading.{Reading, Gives, ◌>>◌, goes, fails}
 
@@ -25,7 +26,8 @@ AtMostOne {A} Reads = (one other : Result A AskFault) → Reads one → Reads ot
 gives_once : {A : Type 0} (read : Result A AskFault) → AtMostOne (Gives read)
 gives_once read one other h k = sym h ∙ k
 
-then_once : {A B : Type 0} (First : Reading A) (Rest : A → Reading B) → AtMostOne First → ((value : A) → AtMostOne (Rest value)) → AtMostOne (First >> Rest)
+then_once : {A B : Type 0} (First : Reading A) (Rest : A → Reading B) → AtMostOne First
+    → ((value : A) → AtMostOne (Rest value)) → AtMostOne (First >> Rest)
 then_once First Rest first rest one other (goes value f r) (goes also g s) =
     let same : Ok value ≡ Ok also = first (Ok value) (Ok also) f g in
     let values : value ≡ also = cc in
@@ -45,7 +47,8 @@ behind text written (V4 number) e = sym (ap (drop 5) e)
 behind text written (V6 number) e = sym (ap (drop 5) e)
 
 -- a text writes one typed address at most
-pub one_typed_addr : (text : List ℕ) (one other : Addr) → WritesTypedAddr text one → WritesTypedAddr text other → one ≡ other
+pub one_typed_addr : (text : List ℕ) (one other : Addr) → WritesTypedAddr text one
+    → WritesTypedAddr text other → one ≡ other
 one_typed_addr text one other h k =
     one_address (drop 5 text) one other (subst (λ t. IsAddrText t one) (behind text h.0 one h.1) h.2)
     (subst (λ t. IsAddrText t other) (behind text k.0 other k.1) k.2)
@@ -62,7 +65,8 @@ addr_once field value = then_once _ _ (gives_once (text_in field (as_str value))
 addrs_once : (field : Name) (items : Items) → AtMostOne (ReadsAddrs field items)
 addrs_once field no_items = gives_once (Ok [])
 addrs_once field (item value items) =
-    then_once _ _ (addr_once field value) (λ addr. then_once _ _ (addrs_once field items) (λ addrs. gives_once (Ok (addr ∷ addrs))))
+    then_once _ _ (addr_once field value)
+    (λ addr. then_once _ _ (addrs_once field items) (λ addrs. gives_once (Ok (addr ∷ addrs))))
 
 member_once : (name : Name) (ends : Data) → AtMostOne (ReadsMember name ends)
 member_once name ends =

@@ -1,15 +1,12 @@
 -- What is written of endpoints in the byte order of their texts is what their addresses ask for.
-use Rattle.std.proofs.Common.{◌≡◌, ◌≢◌, ◌∙◌, ◌<◌, ◌≤◌, ℕ, zero, suc, refl, ap, sym, subst, arith, get_or, length, inl, inr}
-use Rattle.std.proofs.lemmas.Bool.{cases_eq, cases_lt, or_left, or_right}
-use Rattle.std.proofs.lemmas.Cmp.{nat_list_cmp_total, nat_list_eq_equiv}
-use Rattle.std.proofs.lemmas.Map.Keys.{Less-from_sorted}
-use Rattle.std.proofs.lemmas.Map.Text.{is_eq-slice_cmp}
-use Rattle.std.specs.Prelude.{Bool, true, false, cond, ◌||◌, ◌⊎◌, List, [], ◌∷◌, Option, Some, None, is_some, fold, map, option_map, slice_get}
+use Rattle.std.proofs.Common.{◌≡◌, ◌∙◌, ℕ, refl, ap, sym, subst}
+use Rattle.std.proofs.lemmas.Bool.{or_left, or_right}
+use Rattle.std.specs.Prelude.{Bool, true, false, cond, ◌||◌, List, [], ◌∷◌, Option, Some, None, is_some, fold, map}
+use Rattle.std.specs.Prelude.{option_map, slice_get}
 use Rattle.std.specs.BTreeMap.{insert_entry}
 use Rattle.std.specs.Cmp.Lexicographic.{slice_cmp}
 use Rattle.std.specs.List.{AllByRecursion, cons_option, filter_map, list_any}
-use Rattle.std.specs.List.Sorted.{IsNonDecreasingBy, IsPartitionPoint, IsStrictlySortedBy}
-use Rattle.std.specs.Ordering.{is_eq, match_ordering, nat_cmp, ordering_index}
+use Rattle.std.specs.Ordering.{match_ordering, nat_cmp}
 use Rattle.std.specs.declared.cmp.Ordering.{Ordering}
 use Rattle.std.specs.declared.cmp.Ordering.TheVariants.{Less, Equal, Greater}
 use Rattle.serde_json.specs.Data.{Data, object}
@@ -20,94 +17,20 @@ use Rattle.alto_rows.specs.Entities.{WritesTypedAddr}
 use Rattle.alto_rows.specs.Rows.{Rows}
 use Rattle.alto_maps.specs.Places.{set_of}
 use Rattle.alto_maps.specs.Shape.{Name, same_name}
-use Rattle.alto_maps.proofs.SetLemmas.{Rise, any-set_of, itself, none_above, one, rise-set_of, with_name}
+use Rattle.alto_maps.proofs.SetLemmas.{any-set_of, itself, one, rise-set_of, with_name}
 use Rattle.pid_prefix.specs.Longest.{Row, longest_prefix}
 use Rattle.cost_filters.specs.Columns.{has_member, object_if_any, pair_value, valued}
 use Rattle.cost_filters.specs.Filter.{costs_data}
-use Rattle.cost_filters.specs.Names.{IsSetOf}
+use Rattle.cost_tables.specs.Tables.{IsSetOf}
 use Rattle.cost_filters.specs.Pairs.{PairsData, if_there, pair_costs, pairs_of}
 use Rattle.cost_filters.proofs.TextLemmas.{listed_valued, pair_is, set_is, set_members, set_object}
 use Rattle.endpoint_costs.specs.declared.endpoint.Endpoint.{Endpoint}
 use Rattle.endpoint_costs.specs.declared.spots.Spot.{Spot}
 use Rattle.endpoint_costs.specs.Ask.{EndAskData}
 use Rattle.endpoint_costs.specs.Costs.{pairs_object, pid_ask}
-use Rattle.endpoint_costs.specs.Spots.{Costs, IsWritten, costs_object, entries_of, group_at, group_data, has_pair, member_at, place_in, spot_in}
+use Rattle.endpoint_costs.specs.Spots.{Costs, IsWritten, costs_object, entries_of, group_at, group_data, has_pair}
+use Rattle.endpoint_costs.specs.Spots.{member_at, place_in, spot_in}
 use Rattle.endpoint_costs.proofs.OnceLemmas.{one_typed_addr}
-
--- ---- a search among names that rise
-
--- along names that rise the comparison with another doesn't fall
-index_le : (low high name : Name) → slice_cmp nat_cmp low high ≡ Less → (o : Ordering) → slice_cmp nat_cmp high name ≡ o
-    → ordering_index (slice_cmp nat_cmp low name) ≤ ordering_index o
-index_le low high name less Less e = rw (nat_list_cmp_total.trans low high name less e) (omega arith)
-index_le low high name less Equal e = let same : high ≡ name = one_name high name e in rw (← same, less) (omega arith)
-index_le low high name less Greater e = by (slice_cmp nat_cmp low name)
-  where
-    by : (o : Ordering) → ordering_index o ≤ 2
-    by Less = omega arith
-    by Equal = omega arith
-    by Greater = omega arith
-
-searchable : (names : List Name) (name : Name) → Rise names → IsNonDecreasingBy (λ other. ordering_index (slice_cmp nat_cmp other name)) names
-searchable names name rise i j d below within = by (cases_eq i j)
-  where
-    by : (i ≡ j) ⊎ (i ≢ j) → ordering_index (slice_cmp nat_cmp (get_or names i d) name) ≤ ordering_index (slice_cmp nat_cmp (get_or names j d) name)
-    by (inl same) = rw same (omega arith)
-    by (inr apart) =
-        let less : i < j = omega arith in
-        index_le (get_or names i d) (get_or names j d) name (Less-from_sorted (slice_cmp nat_cmp) names i j d rise less within)
-        (slice_cmp nat_cmp (get_or names j d) name) refl
-
--- a name that no other ties with isn't among them
-all_apart : (names : List Name) (name : Name) → ((at : ℕ) (d : Name) → at < length names → is_eq (slice_cmp nat_cmp (get_or names at d) name) ≡ false)
-    → list_any (same_name name) names ≡ false
-all_apart [] name apart = refl
-all_apart (first ∷ names) name apart =
-    let other : same_name name first ≡ false = nat_list_eq_equiv.symm name first ∙ (sym (is_eq-slice_cmp first name) ∙ apart 0 first (omega arith)) in
-    rw other (all_apart names name (λ at d within. apart (suc at) d (omega arith)))
-
--- where a search misses, the name isn't there
-not_among : (names : List Name) (name : Name) (place : ℕ)
-    → IsPartitionPoint (λ other. slice_cmp nat_cmp other name ≡ Less) (λ other. slice_cmp nat_cmp other name ≡ Greater) names place
-    → list_any (same_name name) names ≡ false
-not_among names name place point = all_apart names name (λ at d within. by at d within (cases_lt at place))
-  where
-    by : (at : ℕ) (d : Name) → at < length names → (at < place) ⊎ (place ≤ at) → is_eq (slice_cmp nat_cmp (get_or names at d) name) ≡ false
-    by at d within (inl before) = ap is_eq (point.0 at d (omega arith) before)
-    by at d within (inr behind) = ap is_eq (point.1 at d behind within)
-
-behind_all : (names : List Name) (q : Name) → list_any (same_name q) names ≡ false → length names ≡ place_in names q
-behind_all [] q none = refl
-behind_all (name ∷ names) q none = by (same_name q name) refl (behind_all names q)
-  where
-    by : (b : Bool) → same_name q name ≡ b → (list_any (same_name q) names ≡ false → length names ≡ place_in names q) → length (name ∷ names) ≡ place_in (name ∷ names) q
-    by true e below = let both : true ≡ false = rw e at none in cc
-    by false e below = rw e (ap suc (below (rw e at none)))
-
-pub place_missed : (names : List Name) (q : Name) (place : ℕ) → Rise names
-    → (IsNonDecreasingBy (λ other. ordering_index (slice_cmp nat_cmp other q)) names
-    → IsPartitionPoint (λ other. slice_cmp nat_cmp other q ≡ Less) (λ other. slice_cmp nat_cmp other q ≡ Greater) names place)
-    → length names ≡ place_in names q
-place_missed names q place rise point = behind_all names q (not_among names q place (point (searchable names q rise)))
-
-among_at : (names : List Name) (q : Name) (at : ℕ) → at < length names → get_or names at q ≡ q → list_any (same_name q) names ≡ true
-among_at [] q at within is = absurd (omega arith)
-among_at (name ∷ names) q zero within is = or_left (same_name q name) (list_any (same_name q) names) (rw is (itself q))
-among_at (name ∷ names) q (suc at) within is = or_right (same_name q name) (list_any (same_name q) names) (among_at names q at (omega arith) is)
-
--- where it hits
-pub place_hit : (names : List Name) (q : Name) (at : ℕ) → Rise names → at < length names → get_or names at q ≡ q → at ≡ place_in names q
-unfolding IsStrictlySortedBy
-place_hit [] q at rise within is = absurd (omega arith)
-place_hit (name ∷ names) q zero rise within is = let same : same_name q name ≡ true = rw is (itself q) in rw same refl
-place_hit (name ∷ names) q (suc at) rise within is = by (same_name q name) refl (place_hit names q at rise.1 (omega arith) is)
-  where
-    by : (b : Bool) → same_name q name ≡ b → at ≡ place_in names q → suc at ≡ place_in (name ∷ names) q
-    by false e below = rw e (ap suc below)
-    by true e below =
-        let among : list_any (same_name q) names ≡ true = among_at names q at (omega arith) is in
-        let none : list_any (same_name q) names ≡ false = none_above q name names rise.0 (one q name e) in
-        let both : true ≡ false = sym among ∙ none in cc
 
 -- ---- a text has one PID
 
@@ -124,29 +47,38 @@ abbrev pid_by : List Endpoint → Name → Option Name
 pid_by [] q = None
 pid_by (end ∷ ends) q = cond (same_name q end.text) (Some end.pid) (pid_by ends q)
 
-same_pid : (prefixes : List Row) (first other : Endpoint) → IsWritten prefixes first → IsWritten prefixes other → first.text ≡ other.text → first.pid ≡ other.pid
+same_pid : (prefixes : List Row) (first other : Endpoint) → IsWritten prefixes first → IsWritten prefixes other
+    → first.text ≡ other.text → first.pid ≡ other.pid
 same_pid prefixes first other h k same =
     let addrs : h.0 ≡ k.0 = one_typed_addr other.text h.0 k.0 (subst (λ text. WritesTypedAddr text h.0) same h.1) k.1 in
     let found : Some first.pid ≡ Some other.pid = sym h.2 ∙ (ap (longest_prefix prefixes) addrs ∙ k.2) in
     cc
 
-pid_written : (prefixes : List Row) (all : List Endpoint) (end : Endpoint) → AllByRecursion (IsWritten prefixes) all → IsWritten prefixes end
+pid_written : (prefixes : List Row) (all : List Endpoint) (end : Endpoint) → AllByRecursion (IsWritten prefixes) all
+    → IsWritten prefixes end
     → list_any (same_name end.text) (texts all) ≡ true → pid_by all end.text ≡ Some end.pid
 pid_written prefixes [] end written h among = cc
-pid_written prefixes (other ∷ others) end written h among = by (same_name end.text other.text) refl (pid_written prefixes others end written.1 h)
+pid_written prefixes (other ∷ others) end written h among =
+    by (same_name end.text other.text) refl (pid_written prefixes others end written.1 h)
   where
-    by : (b : Bool) → same_name end.text other.text ≡ b → (list_any (same_name end.text) (texts others) ≡ true → pid_by others end.text ≡ Some end.pid)
+    by : (b : Bool) → same_name end.text other.text ≡ b
+        → (list_any (same_name end.text) (texts others) ≡ true → pid_by others end.text ≡ Some end.pid)
         → pid_by (other ∷ others) end.text ≡ Some end.pid
-    by true e below = rw e (ap (λ (pid : Name). Some pid) (same_pid prefixes other end written.0 h (sym (one end.text other.text e))))
+    by true e below = rw e (ap (λ (pid : Name). Some pid)
+        (same_pid prefixes other end written.0 h (sym (one end.text other.text e))))
     by false e below = rw e (below (rw e at among))
 
-each_written : (prefixes : List Row) (all ends : List Endpoint) → AllByRecursion (IsWritten prefixes) all → AllByRecursion (IsWritten prefixes) ends
+each_written : (prefixes : List Row) (all ends : List Endpoint) → AllByRecursion (IsWritten prefixes) all
+    → AllByRecursion (IsWritten prefixes) ends
     → ((q : Name) → list_any (same_name q) (texts ends) ≡ true → list_any (same_name q) (texts all) ≡ true)
     → AllByRecursion (λ (end : Endpoint). pid_by all end.text ≡ Some end.pid) ends
 each_written prefixes all [] written h among = tt
 each_written prefixes all (end ∷ ends) written h among = (
-  pid_written prefixes all end written h.0 (among end.text (or_left (same_name end.text end.text) (list_any (same_name end.text) (texts ends)) (itself end.text))),
-  each_written prefixes all ends written h.1 (λ q k. among q (or_right (same_name q end.text) (list_any (same_name q) (texts ends)) k)),
+  pid_written prefixes all end written
+      h.0 (among end.text (or_left (same_name end.text end.text) (list_any (same_name end.text) (texts ends))
+      (itself end.text))),
+  each_written prefixes all ends written
+      h.1 (λ q k. among q (or_right (same_name q end.text) (list_any (same_name q) (texts ends)) k)),
 )
 
 -- ---- endpoints by text
@@ -159,21 +91,26 @@ names entries = map (λ (entry : Name × Name). entry.0) entries
 abbrev pub with_end : List (Name × Name) → Endpoint → List (Name × Name)
 with_end entries end = insert_entry (slice_cmp nat_cmp) entries end.text end.pid
 
-names-insert : (entries : List (Name × Name)) (text pid : Name) → names (insert_entry (slice_cmp nat_cmp) entries text pid) ≡ with_name (names entries) text
+names-insert : (entries : List (Name × Name)) (text pid : Name)
+    → names (insert_entry (slice_cmp nat_cmp) entries text pid) ≡ with_name (names entries) text
 names-insert [] text pid = refl
 names-insert (entry ∷ entries) text pid = by (slice_cmp nat_cmp text entry.0) (names-insert entries text pid)
   where
     by : (o : Ordering) → names (insert_entry (slice_cmp nat_cmp) entries text pid) ≡ with_name (names entries) text
-        → names (match_ordering o ((text, pid) ∷ entry ∷ entries) ((entry.0, pid) ∷ entries) (entry ∷ insert_entry (slice_cmp nat_cmp) entries text pid))
-        ≡ match_ordering o (text ∷ entry.0 ∷ names entries) (entry.0 ∷ names entries) (entry.0 ∷ with_name (names entries) text)
+        → names (match_ordering o ((text, pid) ∷ entry ∷ entries) ((entry.0, pid) ∷ entries)
+        (entry ∷ insert_entry (slice_cmp nat_cmp) entries text pid))
+        ≡ match_ordering o (text ∷ entry.0 ∷ names entries) (entry.0 ∷ names entries)
+        (entry.0 ∷ with_name (names entries) text)
     by Less below = refl
     by Equal below = refl
     by Greater below = ap (λ (more : List Name). entry.0 ∷ more) below
 
-names-fold : (entries : List (Name × Name)) (ends : List Endpoint) → names (fold with_end entries ends) ≡ fold with_name (names entries) (texts ends)
+names-fold : (entries : List (Name × Name)) (ends : List Endpoint)
+    → names (fold with_end entries ends) ≡ fold with_name (names entries) (texts ends)
 names-fold entries [] = refl
 names-fold entries (end ∷ ends) =
-    names-fold (with_end entries end) ends ∙ ap (λ (set : List Name). fold with_name set (texts ends)) (names-insert entries end.text end.pid)
+    names-fold (with_end entries end) ends ∙ ap (λ (set : List Name). fold with_name set (texts ends))
+    (names-insert entries end.text end.pid)
 
 -- the texts of endpoints by text are those of all
 names_are : (ends : List Endpoint) → names (entries_of ends) ≡ set_of (texts ends)
@@ -181,13 +118,17 @@ unfolding set_of
 names_are ends = names-fold [] ends
 
 -- what holds of all endpoints holds of those by text
-all-insert : (P : Name × Name → Type 0) (entries : List (Name × Name)) (text pid : Name) → AllByRecursion P entries → P (text, pid)
+all-insert : (P : Name × Name → Type 0) (entries : List (Name × Name)) (text pid : Name)
+    → AllByRecursion P entries → P (text, pid)
     → AllByRecursion P (insert_entry (slice_cmp nat_cmp) entries text pid)
 all-insert P [] text pid all h = (h, tt)
-all-insert P (entry ∷ entries) text pid all h = by (slice_cmp nat_cmp text entry.0) refl (all-insert P entries text pid all.1 h)
+all-insert P (entry ∷ entries) text pid all h =
+    by (slice_cmp nat_cmp text entry.0) refl (all-insert P entries text pid all.1 h)
   where
-    by : (o : Ordering) → slice_cmp nat_cmp text entry.0 ≡ o → AllByRecursion P (insert_entry (slice_cmp nat_cmp) entries text pid)
-        → AllByRecursion P (match_ordering o ((text, pid) ∷ entry ∷ entries) ((entry.0, pid) ∷ entries) (entry ∷ insert_entry (slice_cmp nat_cmp) entries text pid))
+    by : (o : Ordering) → slice_cmp nat_cmp text entry.0 ≡ o
+        → AllByRecursion P (insert_entry (slice_cmp nat_cmp) entries text pid)
+        → AllByRecursion P (match_ordering o ((text, pid) ∷ entry ∷ entries) ((entry.0, pid) ∷ entries)
+        (entry ∷ insert_entry (slice_cmp nat_cmp) entries text pid))
     by Less e more = (h, all)
     by Equal e more = (subst (λ (name : Name). P (name, pid)) (one_name text entry.0 e) h, all.1)
     by Greater e more = (all.0, more)
@@ -195,7 +136,8 @@ all-insert P (entry ∷ entries) text pid all h = by (slice_cmp nat_cmp text ent
 all-fold : (P : Name × Name → Type 0) (entries : List (Name × Name)) (ends : List Endpoint) → AllByRecursion P entries
     → AllByRecursion (λ (end : Endpoint). P (end.text, end.pid)) ends → AllByRecursion P (fold with_end entries ends)
 all-fold P entries [] all each = all
-all-fold P entries (end ∷ ends) all each = all-fold P (with_end entries end) ends (all-insert P entries end.text end.pid all each.0) each.1
+all-fold P entries (end ∷ ends) all each =
+    all-fold P (with_end entries end) ends (all-insert P entries end.text end.pid all each.0) each.1
 
 -- ---- values by text
 
@@ -212,31 +154,39 @@ of_pid value None = None
 abbrev by_text : (Name → Option Data) → List Endpoint → Name → Option Data
 by_text value ends text = of_pid value (pid_by ends text)
 
-ends_valued : (value : Name → Option Data) (all ends : List Endpoint) → AllByRecursion (λ (end : Endpoint). pid_by all end.text ≡ Some end.pid) ends
+ends_valued : (value : Name → Option Data) (all ends : List Endpoint)
+    → AllByRecursion (λ (end : Endpoint). pid_by all end.text ≡ Some end.pid) ends
     → filter_map (λ (end : Endpoint). named end.text (value end.pid)) ends ≡ valued (by_text value all) (texts ends)
 ends_valued value all [] known = refl
-ends_valued value all (end ∷ ends) known = λ i. cons_option (named end.text (of_pid value (sym known.0 i))) (ends_valued value all ends known.1 i)
+ends_valued value all (end ∷ ends) known = λ i. cons_option (named end.text (of_pid value (sym known.0 i)))
+    (ends_valued value all ends known.1 i)
 
 entries_valued : (value : Name → Option Data) (all : List Endpoint) (entries : List (Name × Name))
     → AllByRecursion (λ (entry : Name × Name). pid_by all entry.0 ≡ Some entry.1) entries
-    → filter_map (λ (entry : Name × Name). named entry.0 (value entry.1)) entries ≡ valued (by_text value all) (names entries)
+    → filter_map (λ (entry : Name × Name). named entry.0 (value entry.1)) entries
+    ≡ valued (by_text value all) (names entries)
 entries_valued value all [] known = refl
 entries_valued value all (entry ∷ entries) known =
     λ i. cons_option (named entry.0 (of_pid value (sym known.0 i))) (entries_valued value all entries known.1 i)
 
 -- endpoints have the values of their texts, also by text
 record ByText (value : Name → Option Data) (ends : List Endpoint) : Type 0 where
-  given : filter_map (λ (end : Endpoint). named end.text (value end.pid)) ends ≡ valued (by_text value ends) (texts ends)
-  listed : filter_map (λ (entry : Name × Name). named entry.0 (value entry.1)) (entries_of ends) ≡ valued (by_text value ends) (set_of (texts ends))
+  given : filter_map (λ (end : Endpoint). named end.text (value end.pid)) ends
+      ≡ valued (by_text value ends) (texts ends)
+  listed : filter_map (λ (entry : Name × Name). named entry.0 (value entry.1)) (entries_of ends)
+      ≡ valued (by_text value ends) (set_of (texts ends))
   set : IsSetOf (set_of (texts ends)) (texts ends)
 
-values_by_text : (value : Name → Option Data) (prefixes : List Row) (ends : List Endpoint) → AllByRecursion (IsWritten prefixes) ends → ByText value ends
+values_by_text : (value : Name → Option Data) (prefixes : List Row) (ends : List Endpoint)
+    → AllByRecursion (IsWritten prefixes) ends → ByText value ends
 values_by_text value prefixes ends written =
-    let known : AllByRecursion (λ (end : Endpoint). pid_by ends end.text ≡ Some end.pid) ends = each_written prefixes ends ends written written (λ q h. h) in
+    let known : AllByRecursion (λ (end : Endpoint). pid_by ends end.text ≡ Some end.pid) ends =
+    each_written prefixes ends ends written written (λ q h. h) in
     record {
       given = ends_valued value ends ends known;
       listed =
-          entries_valued value ends (entries_of ends) (all-fold (λ (entry : Name × Name). pid_by ends entry.0 ≡ Some entry.1) [] ends tt known)
+          entries_valued value ends (entries_of ends)
+          (all-fold (λ (entry : Name × Name). pid_by ends entry.0 ≡ Some entry.1) [] ends tt known)
           ∙ ap (valued (by_text value ends)) (names_are ends);
       set = set_is (set_of (texts ends)) (texts ends) (texts ends) refl refl;
     }
@@ -246,34 +196,41 @@ abbrev in_order : (Name → Option Data) → List Endpoint → List (Name × Dat
 in_order value ends = filter_map (λ (entry : Name × Name). named entry.0 (value entry.1)) (entries_of ends)
 
 -- they make the object of all
-ordered : (value : Name → Option Data) (prefixes : List Row) (ends : List Endpoint) → AllByRecursion (IsWritten prefixes) ends
-    → object (members_in_order (in_order value ends)) ≡ object_of (filter_map (λ (end : Endpoint). named end.text (value end.pid)) ends)
+ordered : (value : Name → Option Data) (prefixes : List Row) (ends : List Endpoint)
+    → AllByRecursion (IsWritten prefixes) ends
+    → object (members_in_order (in_order value ends))
+    ≡ object_of (filter_map (λ (end : Endpoint). named end.text (value end.pid)) ends)
 ordered value prefixes ends written =
     let by = values_by_text value prefixes ends written in
     let set = set_of (texts ends) in
     ap (λ ms. object (members_in_order ms)) by.listed
-    ∙ (ap object (sym (listed_valued (by_text value ends) set (rise-set_of (texts ends))) ∙ set_members (by_text value ends) set (texts ends) by.set)
+    ∙ (ap object (sym (listed_valued (by_text value ends) set (rise-set_of (texts ends)))
+    ∙ set_members (by_text value ends) set (texts ends) by.set)
     ∙ ap object_of (sym by.given))
 
 -- the same where there are any
-ordered_if_any : (value : Name → Option Data) (prefixes : List Row) (ends : List Endpoint) → AllByRecursion (IsWritten prefixes) ends
+ordered_if_any : (value : Name → Option Data) (prefixes : List Row) (ends : List Endpoint)
+    → AllByRecursion (IsWritten prefixes) ends
     → cond (has_member (in_order value ends)) (Some (object (members_in_order (in_order value ends)))) None
     ≡ object_if_any (filter_map (λ (end : Endpoint). named end.text (value end.pid)) ends)
 ordered_if_any value prefixes ends written =
     let by = values_by_text value prefixes ends written in
     let set = set_of (texts ends) in
     (λ i. cond (has_member (by.listed i)) (Some (object (members_in_order (by.listed i)))) None)
-    ∙ ((λ i. cond (has_member (valued (by_text value ends) set)) (Some (object (sym (listed_valued (by_text value ends) set (rise-set_of (texts ends))) i))) None)
+    ∙ ((λ i. cond (has_member (valued (by_text value ends) set))
+    (Some (object (sym (listed_valued (by_text value ends) set (rise-set_of (texts ends))) i))) None)
     ∙ (set_object (by_text value ends) set (texts ends) by.set ∙ ap object_if_any (sym by.given)))
 
 -- ---- places
 
 -- what was made for each name stands at its place
-placed : {A : Type 0} (f : Name → A) (pids : List Name) (q : Name) → list_any (same_name q) pids ≡ true → slice_get (map f pids) (place_in pids q) ≡ Some (f q)
+placed : {A : Type 0} (f : Name → A) (pids : List Name) (q : Name) → list_any (same_name q) pids ≡ true
+    → slice_get (map f pids) (place_in pids q) ≡ Some (f q)
 placed f [] q among = cc
 placed f (pid ∷ pids) q among = by (same_name q pid) refl (placed f pids q)
   where
-    by : (b : Bool) → same_name q pid ≡ b → (list_any (same_name q) pids ≡ true → slice_get (map f pids) (place_in pids q) ≡ Some (f q))
+    by : (b : Bool) → same_name q pid ≡ b
+        → (list_any (same_name q) pids ≡ true → slice_get (map f pids) (place_in pids q) ≡ Some (f q))
         → slice_get (map f (pid ∷ pids)) (place_in (pid ∷ pids) q) ≡ Some (f q)
     by true e below = rw e (ap (λ name. Some (f name)) (sym (one q pid e)))
     by false e below = rw e (below (rw e at among))
@@ -282,36 +239,46 @@ placed f (pid ∷ pids) q among = by (same_name q pid) refl (placed f pids q)
 abbrev AreAmong : List Name → List (Name × Name) → Type 0
 AreAmong pids entries = AllByRecursion (λ (entry : Name × Name). list_any (same_name entry.1) pids ≡ true) entries
 
-each_among : (ends others : List Endpoint) → ((q : Name) → list_any (same_name q) (pids ends) ≡ true → list_any (same_name q) (pids others) ≡ true)
+each_among : (ends others : List Endpoint) → ((q : Name) → list_any (same_name q) (pids ends) ≡ true
+    → list_any (same_name q) (pids others) ≡ true)
     → AllByRecursion (λ (end : Endpoint). list_any (same_name end.pid) (set_of (pids others)) ≡ true) ends
 each_among [] others among = tt
 each_among (end ∷ ends) others among = (
-  any-set_of end.pid (pids others) ∙ among end.pid (or_left (same_name end.pid end.pid) (list_any (same_name end.pid) (pids ends)) (itself end.pid)),
+  any-set_of end.pid (pids others)
+      ∙ among end.pid (or_left (same_name end.pid end.pid) (list_any (same_name end.pid) (pids ends)) (itself end.pid)),
   each_among ends others (λ q h. among q (or_right (same_name q end.pid) (list_any (same_name q) (pids ends)) h)),
 )
 
 among_own : (ends : List Endpoint) → AreAmong (set_of (pids ends)) (entries_of ends)
-among_own ends = all-fold (λ (entry : Name × Name). list_any (same_name entry.1) (set_of (pids ends)) ≡ true) [] ends tt (each_among ends ends (λ q h. h))
+among_own ends = all-fold (λ (entry : Name × Name). list_any (same_name entry.1) (set_of (pids ends)) ≡ true) [] ends
+    tt (each_among ends ends (λ q h. h))
 
 -- the value of a PID by costs
 abbrev told : Bool → (Name → Option (List (Option ℕ))) → Name → Option Data
 told multi costs pid = option_map (costs_data multi) (costs pid)
 
-members_placed : (multi : Bool) (costs : Name → Option (List (Option ℕ))) (pids : List Name) (entries : List (Name × Name)) → AreAmong pids entries
-    → filter_map (member_at multi (map costs pids)) (map (spot_in pids) entries) ≡ filter_map (λ (entry : Name × Name). named entry.0 (told multi costs entry.1)) entries
+members_placed : (multi : Bool) (costs : Name
+    → Option (List (Option ℕ))) (pids : List Name) (entries : List (Name × Name)) → AreAmong pids entries
+    → filter_map (member_at multi (map costs pids)) (map (spot_in pids) entries)
+    ≡ filter_map (λ (entry : Name × Name). named entry.0 (told multi costs entry.1)) entries
 members_placed multi costs pids [] among = refl
 members_placed multi costs pids (entry ∷ entries) among =
-    λ i. cons_option (named entry.0 (option_map (costs_data multi) (if_there (placed costs pids entry.1 among.0 i)))) (members_placed multi costs pids entries among.1 i)
+    λ i. cons_option (named entry.0 (option_map (costs_data multi) (if_there (placed costs pids entry.1 among.0 i))))
+    (members_placed multi costs pids entries among.1 i)
 
-any_placed : (multi : Bool) (costs : Name → Option (List (Option ℕ))) (pids : List Name) (entries : List (Name × Name)) → AreAmong pids entries
-    → has_pair (map costs pids) (map (spot_in pids) entries) ≡ has_member (filter_map (λ (entry : Name × Name). named entry.0 (told multi costs entry.1)) entries)
+any_placed : (multi : Bool) (costs : Name → Option (List (Option ℕ))) (pids : List Name) (entries : List (Name × Name))
+    → AreAmong pids entries
+    → has_pair (map costs pids) (map (spot_in pids) entries)
+    ≡ has_member (filter_map (λ (entry : Name × Name). named entry.0 (told multi costs entry.1)) entries)
 any_placed multi costs pids [] among = refl
 any_placed multi costs pids (entry ∷ entries) among =
-    ap (λ found. is_some (if_there found) || has_pair (map costs pids) (map (spot_in pids) entries)) (placed costs pids entry.1 among.0)
+    ap (λ found. is_some (if_there found) || has_pair (map costs pids) (map (spot_in pids) entries))
+    (placed costs pids entry.1 among.0)
     ∙ by (costs entry.1) refl (any_placed multi costs pids entries among.1)
   where
     by : (found : Option (List (Option ℕ))) → costs entry.1 ≡ found
-        → has_pair (map costs pids) (map (spot_in pids) entries) ≡ has_member (filter_map (λ (entry : Name × Name). named entry.0 (told multi costs entry.1)) entries)
+        → has_pair (map costs pids) (map (spot_in pids) entries)
+        ≡ has_member (filter_map (λ (entry : Name × Name). named entry.0 (told multi costs entry.1)) entries)
         → (is_some (costs entry.1) || has_pair (map costs pids) (map (spot_in pids) entries))
         ≡ has_member (filter_map (λ (entry : Name × Name). named entry.0 (told multi costs entry.1)) (entry ∷ entries))
     by None e below = rw e below
@@ -327,35 +294,42 @@ costs_from rows net ask src = pair_costs (pairs_of rows net (pid_ask ask)) src
 abbrev spots : List Endpoint → List Spot
 spots ends = map (spot_in (set_of (pids ends))) (entries_of ends)
 
-group_is : (rows : Rows) (net : Name) (ask : EndAskData) (prefixes : List Row) (src : Name) (dsts : List Endpoint) → AllByRecursion (IsWritten prefixes) dsts
+group_is : (rows : Rows) (net : Name) (ask : EndAskData) (prefixes : List Row) (src : Name) (dsts : List Endpoint)
+    → AllByRecursion (IsWritten prefixes) dsts
     → costs_object ask.multi (spots dsts) (map (costs_from rows net ask src) (set_of (pids dsts)))
-    ≡ object_if_any (filter_map (λ (dst : Endpoint). named dst.text (pair_value rows net (pid_ask ask) src dst.pid)) dsts)
+    ≡ object_if_any (filter_map (λ (dst : Endpoint). named dst.text (pair_value rows net (pid_ask ask) src dst.pid))
+    dsts)
 group_is rows net ask prefixes src dsts written =
     let costs = costs_from rows net ask src in
     let to = set_of (pids dsts) in
     let entries = entries_of dsts in
-    (λ i. cond (any_placed ask.multi costs to entries (among_own dsts) i) (Some (object (members_in_order (members_placed ask.multi costs to entries (among_own dsts) i)))) None)
+    (λ i. cond (any_placed ask.multi costs to entries (among_own dsts) i)
+    (Some (object (members_in_order (members_placed ask.multi costs to entries (among_own dsts) i)))) None)
     ∙ ((λ i.
     cond (has_member (in_order (λ pid. pair_is rows net (pid_ask ask) src pid i) dsts))
     (Some (object (members_in_order (in_order (λ pid. pair_is rows net (pid_ask ask) src pid i) dsts)))) None)
     ∙ ordered_if_any (pair_value rows net (pid_ask ask) src) prefixes dsts written)
 
-groups_placed : (multi : Bool) (dsts : List Endpoint) (costs : Name → Costs) (pids : List Name) (entries : List (Name × Name)) → AreAmong pids entries
+groups_placed : (multi : Bool) (dsts : List Endpoint) (costs : Name
+    → Costs) (pids : List Name) (entries : List (Name × Name)) → AreAmong pids entries
     → filter_map (group_at multi (spots dsts) (map costs pids)) (map (spot_in pids) entries)
     ≡ filter_map (λ (entry : Name × Name). named entry.0 (costs_object multi (spots dsts) (costs entry.1))) entries
 groups_placed multi dsts costs pids [] among = refl
 groups_placed multi dsts costs pids (entry ∷ entries) among =
-    λ i. cons_option (named entry.0 (group_data multi (spots dsts) (placed costs pids entry.1 among.0 i))) (groups_placed multi dsts costs pids entries among.1 i)
+    λ i. cons_option (named entry.0 (group_data multi (spots dsts) (placed costs pids entry.1 among.0 i)))
+    (groups_placed multi dsts costs pids entries among.1 i)
 
 -- what is found between the PIDs of endpoints, each pair of PIDs once
 abbrev pub found_of : PairsData → List Endpoint → List Endpoint → List Costs
 found_of pairs srcs dsts = map (λ src. map (pair_costs pairs src) (set_of (pids dsts))) (set_of (pids srcs))
 
 -- the groups in byte order make the object of all
-pub groups_are : (rows : Rows) (net : Name) (ask : EndAskData) (prefixes : List Row) (srcs dsts : List Endpoint) → AllByRecursion (IsWritten prefixes) srcs
+pub groups_are : (rows : Rows) (net : Name) (ask : EndAskData) (prefixes : List Row) (srcs dsts : List Endpoint)
+    → AllByRecursion (IsWritten prefixes) srcs
     → AllByRecursion (IsWritten prefixes) dsts
     → object (members_in_order (filter_map
-    (group_at ask.multi (map (spot_in (set_of (pids dsts))) (entries_of dsts)) (found_of (pairs_of rows net (pid_ask ask)) srcs dsts))
+    (group_at ask.multi (map (spot_in (set_of (pids dsts))) (entries_of dsts))
+    (found_of (pairs_of rows net (pid_ask ask)) srcs dsts))
     (map (spot_in (set_of (pids srcs))) (entries_of srcs))))
     ≡ pairs_object rows net ask srcs dsts
 groups_are rows net ask prefixes srcs dsts from to =
@@ -363,4 +337,6 @@ groups_are rows net ask prefixes srcs dsts from to =
     ap (λ ms. object (members_in_order ms))
     (groups_placed ask.multi dsts costs (set_of (pids srcs)) (entries_of srcs) (among_own srcs)
     ∙ (λ i. in_order (λ src. group_is rows net ask prefixes src dsts to i) srcs))
-    ∙ ordered (λ src. object_if_any (filter_map (λ (dst : Endpoint). named dst.text (pair_value rows net (pid_ask ask) src dst.pid)) dsts)) prefixes srcs from
+    ∙ ordered (λ src. object_if_any
+    (filter_map (λ (dst : Endpoint). named dst.text (pair_value rows net (pid_ask ask) src dst.pid)) dsts))
+    prefixes srcs from

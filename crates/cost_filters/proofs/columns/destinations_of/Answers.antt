@@ -13,5 +13,6 @@ loop-row-init g c =
     let walk : c.into_iter-row-iterator.result ≡ rows_in rows (span.CostsFrom net metric src) =
     c.into_iter-row-iterator.ensures.into_iter_gives
     ∙ (c.rows_in-row-items.ensures
-    ∙ (λ i. rows_in rows (span.CostsFrom (c.in_ok-clone.ensures.cases i) (c.in_ok-clone-2.ensures.cases i) (c.in_ok-clone-3.ensures.cases i)))) in
+    ∙ (λ i. rows_in rows (span.CostsFrom (c.in_ok-clone.ensures.cases i) (c.in_ok-clone-2.ensures.cases i)
+    (c.in_ok-clone-3.ensures.cases i)))) in
     rw (c.new-names.ensures.items, walk) (destinations_in_span rows net metric src)

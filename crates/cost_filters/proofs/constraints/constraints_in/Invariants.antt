@@ -8,4 +8,5 @@ use Rattle.cost_filters.proofs.constraints.constraints_in.Given as goal
 abbrev pub invariant-loop-item : goal.invariant-loop-item
 invariant-loop-item l =
     constraints_in l.types l.field (items_data l.items)
-    ≡ constraints_in l.types l.field (items_data (drop l.item-index l.items)) >>= λ more. Ok (l.constraints.items ++ more)
+    ≡ constraints_in l.types l.field (items_data (drop l.item-index l.items)) >>= λ more.
+    Ok (l.constraints.items ++ more)

@@ -6,5 +6,6 @@ use Rattle.cost_filters.proofs.constraints.spelled.Goals as goal
 pub returns : goal.returns
 returns c =
     c.ok.ensures.value
-    ∙ (read_as_spelled c.as_bytes.result.now c.read_constraint.result c.read_constraint.ensures.ok c.read_constraint.ensures.only
+    ∙ (read_as_spelled c.as_bytes.result.now c.read_constraint.result c.read_constraint.ensures.ok
+    c.read_constraint.ensures.only
     ∙ ap spelled c.as_bytes.ensures.value)

@@ -12,6 +12,8 @@ returns g c =
     let src = c.args.src.now in
     let dsts = c.args.dsts.now in
     let multi = c.args.multi in
-    let object : found_object multi dsts c.in_ok-found.found ≡ object_if_any (valued (pair_shown multi pairs src) dsts) =
+    let object : found_object multi dsts c.in_ok-found.found
+    ≡ object_if_any (valued (pair_shown multi pairs src) dsts) =
     ap (found_object multi dsts) c.in_ok-found.ensures ∙ object_found (pair_costs pairs src) multi dsts c.requires in
-    on_ok_weaker c.write_found.result (subst (λ value. AddsIfAny src value c.args.out.now c.write_found.new.out) object) c.write_found.ensures
+    on_ok_weaker c.write_found.result (subst (λ value. AddsIfAny src value c.args.out.now c.write_found.new.out) object)
+    c.write_found.ensures

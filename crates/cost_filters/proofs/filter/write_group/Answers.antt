@@ -20,5 +20,6 @@ returns-in_ok-dsts-in-None g c =
     ap (λ (names : List Name). object_if_any (valued value names)) c.deref-in-None.ensures.value
     ∙ set_object value c.in_ok-dsts-in-None.dsts.items all c.in_ok-dsts-in-None.ensures in
     rw c.in-None.is
-    (on_ok_weaker c.write_among-in-None.result (subst (λ (found : Option Data). AddsIfAny src found c.args.out.now c.write_among-in-None.new.out) same)
+    (on_ok_weaker c.write_among-in-None.result
+    (subst (λ (found : Option Data). AddsIfAny src found c.args.out.now c.write_among-in-None.new.out) same)
     c.write_among-in-None.ensures)

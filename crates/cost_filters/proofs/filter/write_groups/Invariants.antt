@@ -13,6 +13,7 @@ invariant-loop-src g l =
     let group = group_made l.multi (option_map (λ names. names.items) l.given) l.pairs in
     record {
       before : l.out.before ≡ l.initial.out.before;
-      tokens : l.out.tokens ++ members_tokens (members_outline (members_in_order (valued group (drop l.src-index l.srcs))))
+      tokens : l.out.tokens ++ members_tokens
+          (members_outline (members_in_order (valued group (drop l.src-index l.srcs))))
           ≡ l.initial.out.tokens ++ members_tokens (members_outline (members_in_order (valued group l.srcs)));
     }

@@ -14,8 +14,10 @@ returns g c =
     let net = c.args.net.now in
     let ask = c.args.ask.now in
     on_ok_weaker c.end_object.result
-    (λ closed. whole_object _ c.args.out.now c.begin_object.new.self c.write_meta.new.out c.end_object.new.self (search rules) (search rules)
-    (section_first (codes "cost-map") (filtered_meta rows net ask) (section_object (filtered_face rows net ask)) c.begin_object.new.self c.write_section.new.out c.write_meta.new.out
+    (λ closed. whole_object _ c.args.out.now c.begin_object.new.self c.write_meta.new.out c.end_object.new.self
+    (search rules) (search rules)
+    (section_first (codes "cost-map") (filtered_meta rows net ask) (section_object (filtered_face rows net ask))
+    c.begin_object.new.self c.write_section.new.out c.write_meta.new.out
     refl c.in_ok-write_section.ensures c.in_ok-write_meta.ensures)
     closed (search rules))
     c.end_object.ensures.ok

@@ -13,11 +13,14 @@ loop-at-preserved c =
     let l = c.loop-at in
     let dst = c.index-dsts-at.result in
     let dsts = c.args.dsts.now in
-    let step : drop l.at dsts ≡ dst ∷ drop (l.at + 1) dsts = rw (drop_more dsts l.at dst c.loop-at-test.true, ← c.index-dsts-at.is) refl in
+    let step : drop l.at dsts ≡ dst ∷ drop (l.at + 1) dsts =
+    rw (drop_more dsts l.at dst c.loop-at-test.true, ← c.index-dsts-at.is) refl in
     let value = option_map (costs_data c.args.multi) (if_there (slice_get c.args.found.now l.at)) in
     let added : AddsIfAny dst value l.out c.write_pair.new.out =
-    subst (λ (name : Name). AddsIfAny name value l.out c.write_pair.new.out) c.as_str.ensures c.in_ok-write_pair.ensures in
+    subst (λ (name : Name). AddsIfAny name value l.out c.write_pair.new.out) c.as_str.ensures
+    c.in_ok-write_pair.ensures in
     record {
       before = any_before dst _ l.out c.write_pair.new.out added ∙ l.invariant.before;
-      tokens = shown_more c.args.multi dst (drop l.at dsts) (drop (l.at + 1) dsts) c.args.found.now l.at l.out c.write_pair.new.out step added ∙ l.invariant.tokens;
+      tokens = shown_more c.args.multi dst (drop l.at dsts) (drop (l.at + 1) dsts) c.args.found.now l.at l.out
+          c.write_pair.new.out step added ∙ l.invariant.tokens;
     }

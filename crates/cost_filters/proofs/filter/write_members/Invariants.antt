@@ -10,6 +10,8 @@ abbrev pub invariant-loop-at : goal.invariant-loop-at
 invariant-loop-at l =
     record {
       before : l.out.before ≡ l.initial.out.before;
-      tokens : l.out.tokens ++ members_tokens (members_outline (members_in_order (shown_members l.multi (drop l.at l.dsts) (drop l.at l.found))))
-          ≡ l.initial.out.tokens ++ members_tokens (members_outline (members_in_order (shown_members l.multi l.dsts l.found)));
+      tokens : l.out.tokens ++ members_tokens
+          (members_outline (members_in_order (shown_members l.multi (drop l.at l.dsts) (drop l.at l.found))))
+          ≡ l.initial.out.tokens ++ members_tokens
+          (members_outline (members_in_order (shown_members l.multi l.dsts l.found)));
     }

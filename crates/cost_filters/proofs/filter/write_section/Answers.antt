@@ -11,7 +11,8 @@ use Rattle.net_docs.proofs.WritingLemmas.{named_value}
 use Rattle.cost_filters.specs.Ask.{CostAskData}
 use Rattle.cost_filters.specs.Columns.{srcs_tried, valued}
 use Rattle.cost_filters.specs.Filter.{filtered_face}
-use Rattle.cost_filters.specs.Names.{AreSetIfAny, IsSetOf, names_given}
+use Rattle.cost_tables.specs.Tables.{IsSetOf}
+use Rattle.cost_filters.specs.Names.{AreSetIfAny, names_given}
 use Rattle.cost_filters.specs.Pairs.{pairs_of}
 use Rattle.cost_filters.specs.Text.{group_made}
 use Rattle.cost_filters.proofs.TextLemmas.{given_rise, section_is}
@@ -41,13 +42,17 @@ returns g c =
     let given : option_map (λ names. names.items) c.in_ok-given.given ≡ names_given ask.dsts =
     c.in_ok-given.ensures ∙ ap (λ (asked : CostAskData). names_given asked.dsts) c.ask.view_is in
     let multi : c.ask.inside.multi ≡ ask.multi = ap (λ (asked : CostAskData). asked.multi) c.ask.view_is in
-    let whole : object (members_in_order (valued (group_made c.ask.inside.multi (option_map (λ names. names.items) c.in_ok-given.given) c.in_ok-pairs.pairs) c.deref-4.result.now))
+    let whole : object (members_in_order
+    (valued (group_made c.ask.inside.multi (option_map (λ names. names.items) c.in_ok-given.given) c.in_ok-pairs.pairs)
+    c.deref-4.result.now))
     ≡ section_object (filtered_face rows net ask) =
     (λ i. object (members_in_order (valued (group_made (multi i) (given i) (made i)) (c.deref-4.ensures.value i))))
     ∙ section_is rows net ask srcs c.requires.good set in
     on_ok_weaker c.end_object.result
-    (λ closed. named_value (codes "cost-map") (section_object (filtered_face rows net ask)) c.args.out.now c.key.new.self c.end_object.new.self (search rules) (search rules)
+    (λ closed. named_value (codes "cost-map") (section_object (filtered_face rows net ask)) c.args.out.now
+    c.key.new.self c.end_object.new.self (search rules) (search rules)
     (subst (λ (d : Data). AddsValue d c.key.new.self c.end_object.new.self) whole
-    (whole_object _ c.key.new.self c.begin_object.new.self c.write_groups.new.out c.end_object.new.self (search rules) (search rules)
+    (whole_object _ c.key.new.self c.begin_object.new.self c.write_groups.new.out c.end_object.new.self
+    (search rules) (search rules)
     c.in_ok-write_groups.ensures closed (search rules))))
     c.end_object.ensures.ok

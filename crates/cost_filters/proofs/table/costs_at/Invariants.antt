@@ -5,4 +5,5 @@ use Rattle.cost_filters.proofs.table.costs_at.Given as goal
 -- the costs that are there, and those of the columns that are left, are all
 abbrev pub invariant-loop-column : goal.invariant-loop-column
 invariant-loop-column l =
-    l.costs.items ++ costs_at l.at (map (λ column. column.items) (drop l.column-index l.columns)) ≡ costs_at l.at (map (λ column. column.items) l.columns)
+    l.costs.items ++ costs_at l.at (map (λ column. column.items) (drop l.column-index l.columns))
+    ≡ costs_at l.at (map (λ column. column.items) l.columns)

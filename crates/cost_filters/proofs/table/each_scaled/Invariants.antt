@@ -5,4 +5,5 @@ use Rattle.cost_filters.proofs.table.each_scaled.Given as goal
 
 abbrev pub invariant-loop-cost : goal.invariant-loop-cost
 invariant-loop-cost l =
-    l.all.items ++ map (option_map (scaled l.scale)) (drop l.cost-index l.costs) ≡ map (option_map (scaled l.scale)) l.costs
+    l.all.items ++ map (option_map (scaled l.scale)) (drop l.cost-index l.costs)
+    ≡ map (option_map (scaled l.scale)) l.costs

@@ -18,5 +18,8 @@ loop-column-preserved c rows costs =
     let step : drop l.column-index c.args.columns.now ≡ column ∷ left =
     rw (drop_more c.args.columns.now l.column-index column c.loop-column-test.true, ← c.column-item.is) refl in
     rw c.in_ok-push.ensures
-    (column_more l.table (told_from rows net left src dsts) _ c.in_ok-column_from.field-0.items (map (λ dst. column_cost rows net src dst column) dsts)
-    (c.in_ok-column_from.ensures rows costs) (ap (λ (columns : List Column). l.table ++ told_from rows net columns src dsts) (sym step) ∙ l.invariant rows costs))
+    (column_more l.table (told_from rows net left src dsts) _ c.in_ok-column_from.field-0.items
+    (map (λ dst. column_cost rows net src dst column) dsts)
+    (c.in_ok-column_from.ensures rows costs)
+    (ap (λ (columns : List Column). l.table ++ told_from rows net columns src dsts) (sym step)
+    ∙ l.invariant rows costs))

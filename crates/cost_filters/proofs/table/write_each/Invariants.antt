@@ -11,6 +11,9 @@ abbrev pub invariant-loop-column : goal.invariant-loop-column
 invariant-loop-column l =
     record {
       before : l.out.before ≡ l.initial.out.before;
-      tokens : l.out.tokens ++ items_tokens (items_outline (items_of (map number_data (costs_at l.at (map (λ column. column.items) (drop l.column-index l.columns))))))
-          ≡ l.initial.out.tokens ++ items_tokens (items_outline (items_of (map number_data (costs_at l.at (map (λ column. column.items) l.columns)))));
+      tokens : l.out.tokens ++ items_tokens
+          (items_outline
+          (items_of (map number_data (costs_at l.at (map (λ column. column.items) (drop l.column-index l.columns))))))
+          ≡ l.initial.out.tokens ++ items_tokens
+          (items_outline (items_of (map number_data (costs_at l.at (map (λ column. column.items) l.columns)))));
     }

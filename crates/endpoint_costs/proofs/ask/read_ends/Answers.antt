@@ -13,7 +13,8 @@ pub returns-in_err-srcs-clause-err : goal.returns-in_err-srcs-clause-err
 returns-in_err-srcs-clause-err c =
     let p = err_from_is_err_and c.from_residual-in_err-srcs.result c.from_residual-in_err-srcs.ensures.1 in
     rw (p.1, p.2) (λ known.
-    goes (data_of c.in_ok-object.object.now) c.in_ok-object.ensures.ok (fails c.in_err-srcs.field-0.0 (c.in_err-srcs.ensures.err known) refl))
+    goes (data_of c.in_ok-object.object.now) c.in_ok-object.ensures.ok
+    (fails c.in_err-srcs.field-0.0 (c.in_err-srcs.ensures.err known) refl))
 
 pub returns-in_err-dsts-clause-err : goal.returns-in_err-dsts-clause-err
 returns-in_err-dsts-clause-err c =
@@ -24,4 +25,5 @@ returns-in_err-dsts-clause-err c =
 
 pub returns-clause-ok : goal.returns-clause-ok
 returns-clause-ok c =
-    goes (data_of c.in_ok-object.object.now) c.in_ok-object.ensures.ok (goes _ c.in_ok-srcs.ensures.ok (goes _ c.in_ok-dsts.ensures.ok refl))
+    goes (data_of c.in_ok-object.object.now) c.in_ok-object.ensures.ok
+    (goes _ c.in_ok-srcs.ensures.ok (goes _ c.in_ok-dsts.ensures.ok refl))

@@ -4,4 +4,5 @@ use Rattle.endpoint_costs.proofs.costs.found_between.Given as goal
 
 abbrev pub invariant-loop-src : goal.invariant-loop-src
 invariant-loop-src g l =
-    l.found.items ++ map (λ src. map (pair_costs l.pairs src) l.to) (drop l.src-index l.from) ≡ map (λ src. map (pair_costs l.pairs src) l.to) l.from
+    l.found.items ++ map (λ src. map (pair_costs l.pairs src) l.to) (drop l.src-index l.from)
+    ≡ map (λ src. map (pair_costs l.pairs src) l.to) l.from

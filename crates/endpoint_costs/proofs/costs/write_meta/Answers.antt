@@ -19,10 +19,13 @@ returns c =
     let begun = c.begin_object.new.self in
     let written = c.write_types.new.out in
     let types : AddsMember (types_name ask.multi) (types_data ask.multi ask.types) begun written =
-    subst (λ (asked : EndAskData). AddsMember (types_name asked.multi) (types_data asked.multi asked.types) begun written) c.ask.view_is
-    (subst (λ listed. AddsMember (types_name c.ask.inside.multi) (types_data c.ask.inside.multi listed) begun written) c.deref.ensures.value c.in_ok-write_types.ensures) in
+    subst (λ (asked : EndAskData). AddsMember (types_name asked.multi) (types_data asked.multi asked.types) begun
+    written) c.ask.view_is
+    (subst (λ listed. AddsMember (types_name c.ask.inside.multi) (types_data c.ask.inside.multi listed) begun written)
+    c.deref.ensures.value c.in_ok-write_types.ensures) in
     on_ok_weaker c.end_object.result
-    (λ closed. named_value (codes "meta") (endpoint_meta ask) c.args.out.now c.key.new.self c.end_object.new.self (search rules) (search rules)
+    (λ closed. named_value (codes "meta") (endpoint_meta ask) c.args.out.now c.key.new.self c.end_object.new.self
+    (search rules) (search rules)
     (whole_object _ c.key.new.self begun written c.end_object.new.self (search rules) (search rules)
     (record {
       tokens = member_more (types_name ask.multi) (types_data ask.multi ask.types) no_members begun written types;

@@ -20,10 +20,12 @@ use Rattle.endpoint_costs.proofs.SpotLemmas.{found_of, groups_are, pids}
 use Rattle.endpoint_costs.proofs.costs.write_section.Goals as goal
 
 pub spots_of-requires : goal.spots_of-requires
-spots_of-requires g c = subst Rise (sym (c.deref-8.ensures.value ∙ c.in_ok-from.ensures)) (rise-set_of (pids c.deref-4.result.now))
+spots_of-requires g c = subst Rise (sym (c.deref-8.ensures.value ∙ c.in_ok-from.ensures))
+    (rise-set_of (pids c.deref-4.result.now))
 
 pub spots_of-requires-2 : goal.spots_of-requires-2
-spots_of-requires-2 g c = subst Rise (sym (c.deref-9.ensures.value ∙ c.in_ok-to.ensures)) (rise-set_of (pids c.deref-5.result.now))
+spots_of-requires-2 g c = subst Rise (sym (c.deref-9.ensures.value ∙ c.in_ok-to.ensures))
+    (rise-set_of (pids c.deref-5.result.now))
 
 pub returns : goal.returns
 returns g c =
@@ -43,23 +45,30 @@ returns g c =
       alternatives = map (λ constraints. constraints.items) (c.deref-3.ensures.value i);
     })
     ∙ ap (λ (asked : EndAskData). pairs_of rows net (pid_ask asked)) c.ask.view_is) in
-    let from : c.in_ok-from.from.items ≡ set_of (pids srcs) = c.in_ok-from.ensures ∙ ap (λ (ends : List Endpoint). set_of (pids ends)) c.deref-4.ensures.value in
-    let to : c.in_ok-to.to.items ≡ set_of (pids dsts) = c.in_ok-to.ensures ∙ ap (λ (ends : List Endpoint). set_of (pids ends)) c.deref-5.ensures.value in
+    let from : c.in_ok-from.from.items ≡ set_of (pids srcs) = c.in_ok-from.ensures
+    ∙ ap (λ (ends : List Endpoint). set_of (pids ends)) c.deref-4.ensures.value in
+    let to : c.in_ok-to.to.items ≡ set_of (pids dsts) = c.in_ok-to.ensures
+    ∙ ap (λ (ends : List Endpoint). set_of (pids ends)) c.deref-5.ensures.value in
     let found : c.in_ok-found.found.items ≡ found_of (pairs_of rows net (pid_ask ask)) srcs dsts =
-    c.in_ok-found.ensures ∙ (λ i. map (λ src. map (pair_costs (made i) src) ((c.deref-7.ensures.value ∙ to) i)) ((c.deref-6.ensures.value ∙ from) i)) in
+    c.in_ok-found.ensures ∙ (λ i. map (λ src. map (pair_costs (made i) src) ((c.deref-7.ensures.value ∙ to) i))
+    ((c.deref-6.ensures.value ∙ from) i)) in
     let first : c.in_ok-srcs.srcs.items ≡ map (spot_in (set_of (pids srcs))) (entries_of srcs) =
     c.in_ok-srcs.ensures ∙ (λ i. map (spot_in ((c.deref-8.ensures.value ∙ from) i)) (entries_of srcs)) in
     let second : c.in_ok-dsts.dsts.items ≡ map (spot_in (set_of (pids dsts))) (entries_of dsts) =
     c.in_ok-dsts.ensures ∙ (λ i. map (spot_in ((c.deref-9.ensures.value ∙ to) i)) (entries_of dsts)) in
-    let whole : object (members_in_order (filter_map (group_at c.ask.inside.multi c.deref-11.result.now c.deref-12.result.now) c.deref-10.result.now))
+    let whole : object (members_in_order
+    (filter_map (group_at c.ask.inside.multi c.deref-11.result.now c.deref-12.result.now) c.deref-10.result.now))
     ≡ pairs_object rows net ask srcs dsts =
     (λ i. object (members_in_order (filter_map
-    (group_at (multi i) ((c.deref-11.ensures.value ∙ second) i) ((c.deref-12.ensures.value ∙ found) i)) ((c.deref-10.ensures.value ∙ first) i))))
+    (group_at (multi i) ((c.deref-11.ensures.value ∙ second) i) ((c.deref-12.ensures.value ∙ found) i))
+    ((c.deref-10.ensures.value ∙ first) i))))
     ∙ groups_are rows net ask (prefixes_in rows net) srcs dsts c.requires.srcs c.requires.dsts in
     on_ok_weaker c.end_object.result
-    (λ closed. named_value (codes "endpoint-cost-map") (pairs_object rows net ask srcs dsts) c.args.out.now c.key.new.self c.end_object.new.self c.in_ok-key.ensures.ok
+    (λ closed. named_value (codes "endpoint-cost-map") (pairs_object rows net ask srcs dsts) c.args.out.now
+    c.key.new.self c.end_object.new.self c.in_ok-key.ensures.ok
     c.key.ensures.room.0
     (subst (λ (d : Data). AddsValue d c.key.new.self c.end_object.new.self) whole
-    (whole_object _ c.key.new.self c.begin_object.new.self c.write_groups.new.out c.end_object.new.self c.in_ok-begin_object.ensures.ok
+    (whole_object _ c.key.new.self c.begin_object.new.self c.write_groups.new.out c.end_object.new.self
+    c.in_ok-begin_object.ensures.ok
     c.begin_object.ensures.room.0 c.in_ok-write_groups.ensures closed c.end_object.ensures.room.0)))
     c.end_object.ensures.ok

@@ -12,6 +12,7 @@ invariant-loop-src l =
     let group = group_at l.multi l.dsts l.found in
     record {
       before : l.out.before ≡ l.initial.out.before;
-      tokens : l.out.tokens ++ members_tokens (members_outline (members_in_order (filter_map group (drop l.src-index l.srcs))))
+      tokens : l.out.tokens ++ members_tokens
+          (members_outline (members_in_order (filter_map group (drop l.src-index l.srcs))))
           ≡ l.initial.out.tokens ++ members_tokens (members_outline (members_in_order (filter_map group l.srcs)));
     }

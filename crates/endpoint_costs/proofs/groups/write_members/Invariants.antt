@@ -12,6 +12,7 @@ invariant-loop-dst l =
     let member = member_at l.multi l.costs in
     record {
       before : l.out.before ≡ l.initial.out.before;
-      tokens : l.out.tokens ++ members_tokens (members_outline (members_in_order (filter_map member (drop l.dst-index l.dsts))))
+      tokens : l.out.tokens ++ members_tokens
+          (members_outline (members_in_order (filter_map member (drop l.dst-index l.dsts))))
           ≡ l.initial.out.tokens ++ members_tokens (members_outline (members_in_order (filter_map member l.dsts)));
     }

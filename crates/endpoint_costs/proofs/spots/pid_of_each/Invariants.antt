@@ -4,4 +4,5 @@ use Rattle.endpoint_costs.proofs.spots.pid_of_each.Given as goal
 
 abbrev pub invariant-loop-end : goal.invariant-loop-end
 invariant-loop-end l =
-    l.pids.items ++ map (λ (end : Endpoint). end.pid) (drop l.end-index l.ends) ≡ map (λ (end : Endpoint). end.pid) l.ends
+    l.pids.items ++ map (λ (end : Endpoint). end.pid) (drop l.end-index l.ends)
+    ≡ map (λ (end : Endpoint). end.pid) l.ends

@@ -1,7 +1,7 @@
 -- The search hits the name's place, or the name isn't there.
 use Rattle.std.proofs.Common.{◌≡◌, get_or}
 use Rattle.json_tree.proofs.Lookups.{one_name}
-use Rattle.endpoint_costs.proofs.SpotLemmas.{place_hit, place_missed}
+use Rattle.endpoint_costs.proofs.PlaceLemmas.{place_hit, place_missed}
 use Rattle.endpoint_costs.proofs.spots.place_in.Goals as goal
 
 pub returns-in-Ok : goal.returns-in-Ok

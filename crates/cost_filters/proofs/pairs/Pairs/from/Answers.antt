@@ -23,5 +23,7 @@ returns g c =
     c.new.ensures
     ∙ (ap (costs_shown c.in_ok-told.told 0) c.in_ok-shown.ensures
     ∙ (all_pairs inside src dsts c.self.inside.columns.items c.in_ok-told.told c.in_ok-tested.tested c.self.invariant.2
-    (c.in_ok-told.ensures rows costs ∙ ap (λ (columns : List Column). told_from rows c.self.inside.net.now columns src dsts) c.deref.ensures.value) (c.in_ok-tested.ensures rows costs)
+    (c.in_ok-told.ensures rows costs
+    ∙ ap (λ (columns : List Column). told_from rows c.self.inside.net.now columns src dsts) c.deref.ensures.value)
+    (c.in_ok-tested.ensures rows costs)
     ∙ ap (λ (asked : PairsData). map (pair_costs asked src) dsts) c.self.view_is))
