@@ -19,30 +19,35 @@ apart size a b p q lt =
 -- a power of two divides the larger ones
 power_divides : (i j : ℕ) → i ≤ j → 2 ^ i ∣ 2 ^ j
 power_divides i j h =
-    let e : 2 ^ j ≡ 2 ^ (j - i) * 2 ^ i = ap (λ k. 2 ^ k) (let s : j ≡ (j - i) + i = omega arith in s) ∙ pow-add 2 (j - i) i in
+    let e : 2 ^ j ≡ 2 ^ (j - i) * 2 ^ i = ap (λ k. 2 ^ k) (let s : j ≡ (j - i) + i = omega arith in
+    s) ∙ pow-add 2 (j - i) i in
     subst (λ n. 2 ^ i ∣ n) (sym e) (dvd-mul_left (2 ^ i) (2 ^ (j - i)))
 
 -- a block of numbers of 128 bits ends by their end
 pub ends_by : (first len : ℕ) → first < 2 ^ 128 → first % 2 ^ (128 - len) ≡ 0 → end_of first len ≤ 2 ^ 128
 ends_by first len low none =
-    apart (2 ^ (128 - len)) first (2 ^ 128) (dvd_of_mod-eq-zero (2 ^ (128 - len)) none) (power_divides (128 - len) 128 (omega arith)) low
+    apart (2 ^ (128 - len)) first (2 ^ 128) (dvd_of_mod-eq-zero (2 ^ (128 - len)) none)
+    (power_divides (128 - len) 128 (omega arith)) low
 
 -- ---- two blocks in order
 
 -- a block's first is a multiple of a longer block's size
 first_divides : (block : Block) (len : ℕ) → block.len ≤ len → 2 ^ (128 - len) ∣ block.first
 first_divides block len h =
-    dvd_trans (2 ^ (128 - len)) (power_divides (128 - len) (128 - block.len) (omega arith)) (dvd_of_mod-eq-zero (2 ^ (128 - block.len)) block.is_block.1)
+    dvd_trans (2 ^ (128 - len)) (power_divides (128 - len) (128 - block.len) (omega arith))
+    (dvd_of_mod-eq-zero (2 ^ (128 - block.len)) block.is_block.1)
 
 -- where a block begins inside one before it, it has as many fixed bits or more
-pub later_longer : (block other : Block) → IsBefore block other → other.first < end_of block.first block.len → block.len ≤ other.len
+pub later_longer : (block other : Block) → IsBefore block other → other.first < end_of block.first block.len
+    → block.len ≤ other.len
 later_longer block other before inside =
     ⊎_elim
     (λ less. ⊎_elim
     (λ (shorter : other.len < block.len).
     let p : 2 ^ (128 - block.len) ∣ other.first = first_divides other block.len (omega arith) in
     let q : 2 ^ (128 - block.len) ∣ block.first = first_divides block block.len (omega arith) in
-    let far : block.first + 2 ^ (128 - block.len) ≤ other.first = apart (2 ^ (128 - block.len)) block.first other.first q p less in
+    let far : block.first + 2 ^ (128 - block.len) ≤ other.first =
+    apart (2 ^ (128 - block.len)) block.first other.first q p less in
     absurd (omega arith))
     (λ h. h)
     (cases_lt other.len block.len))

@@ -2,6 +2,8 @@ pub mod LongestLemmas
 pub mod RangeLemmas
 pub mod BlockLemmas
 pub mod SweepLemmas
+pub mod PassLemmas
 pub mod OrderLemmas
 pub mod TableLemmas
 pub mod FindLemmas
+pub mod RangesLemmas

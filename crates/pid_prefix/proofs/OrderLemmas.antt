@@ -29,12 +29,19 @@ before_from : (block other : Block) → is_lt (in_parts other block) ≡ false �
 before_from block other h =
     ⊎_elim
     (λ same. ⊎_elim
-    (λ (less : other.len < block.len). absurd (both_ways (is_lt (in_parts other block)) h (rw (le-ltb other.first block.first (omega arith), eq-eqb other.first block.first (sym same), lt-ltb other.len block.len less) refl)))
+    (λ (less : other.len < block.len).
+    absurd (both_ways (is_lt (in_parts other block))
+    h (rw (
+      le-ltb other.first block.first (omega arith),
+      eq-eqb other.first block.first (sym same),
+      lt-ltb other.len block.len less,
+    ) refl)))
     (λ most. inr (same, most))
     (cases_lt other.len block.len))
     (λ apart. ⊎_elim
     (λ less. inl less)
-    (λ (less : other.first < block.first). absurd (both_ways (is_lt (in_parts other block)) h (rw (lt-ltb other.first block.first less) refl)))
+    (λ (less : other.first < block.first).
+    absurd (both_ways (is_lt (in_parts other block)) h (rw (lt-ltb other.first block.first less) refl)))
     apart)
     (cases_order block.first other.first)
 
@@ -42,5 +49,8 @@ before_from block other h =
 pub ordered_from_sorted : (blocks : List Block) → IsSorted block_order.cmp-value.it blocks → AreOrdered blocks
 ordered_from_sorted blocks sorted =
     let same : in_parts ≡ block_order.cmp-value.it = fun_ext (λ a. fun_ext (λ b. in_parts-derived a b)) in
-    let in_order : IsSorted in_parts blocks = subst (λ (R : Block → Block → Ordering). IsSorted R blocks) (sym same) sorted in
-    λ i j d lt below. before_from (get_or blocks i d) (get_or blocks j d) (sorted_far (λ x y. is_lt (in_parts x y)) (ranks_by in_parts_total (λ (b : Block). b)) blocks in_order i j d (omega arith) below)
+    let in_order : IsSorted in_parts blocks =
+    subst (λ (R : Block → Block → Ordering). IsSorted R blocks) (sym same) sorted in
+    λ i j d lt below. before_from (get_or blocks i d) (get_or blocks j d)
+    (sorted_far (λ x y. is_lt (in_parts x y)) (ranks_by in_parts_total (λ (b : Block). b)) blocks in_order i j
+    d (omega arith) below)

@@ -1,11 +1,13 @@
 -- What ranges give a number: the last row of those that begin by it.
-use Rattle.std.proofs.Common.{◌≡◌, ℕ, ◌+◌, ◌-◌, ◌*◌, ◌^◌, ◌<◌, ◌≤◌, refl, ap, sym, ◌∙◌, arith, take, drop, get_or, zero, suc}
+use Rattle.std.proofs.Common.{◌≡◌, ℕ, ◌+◌, ◌-◌, ◌*◌, ◌^◌, ◌<◌, ◌≤◌, refl, ap, sym, ◌∙◌, arith, take, drop, get_or, zero}
+use Rattle.std.proofs.Common.{suc}
 use Rattle.std.proofs.Math.Nat.{mul-le-mul_left, pow-suc}
 use Rattle.std.specs.Prelude.{List, [], ◌∷◌, ◌++◌, length, Option, None, cond, nat_le}
 use Rattle.std.specs.List.{All, filter}
 use Rattle.std.specs.List.Sorted.{IsNonDecreasingBy}
 use Rattle.std.proofs.lemmas.Bool.{le-leb, lt-leb}
-use Rattle.std.proofs.lemmas.List.{append-nil, get_or_default, take-append-drop, take_more, get_or-take, get_or-drop, length-drop, length-take-le}
+use Rattle.std.proofs.lemmas.List.{append-nil, get_or_default, take-append-drop, take_more, get_or-take, get_or-drop}
+use Rattle.std.proofs.lemmas.List.{length-drop, length-take-le}
 use Rattle.std.proofs.lemmas.List.Elements.{filter-append, All-nil, All-cons, All-head, All-tail, All-append}
 use Rattle.pid_prefix.specs.declared.range.Range.{Range}
 use Rattle.pid_prefix.specs.Ranges.{AreRising, last_row, row_at}
@@ -21,25 +23,31 @@ abbrev pub AllPast : ℕ → List Range → Type 0
 AllPast number ranges = All (λ range. number < range.first) ranges
 
 -- of ranges that all begin by the number, all are kept
-pub kept_by : (number : ℕ) (ranges : List Range) → AllBy number ranges → filter (λ range. nat_le range.first number) ranges ≡ ranges
+pub kept_by : (number : ℕ) (ranges : List Range) → AllBy number ranges
+    → filter (λ range. nat_le range.first number) ranges ≡ ranges
 kept_by number [] h = refl
 kept_by number (range ∷ rest) h =
     let here : range.first ≤ number = All-head (λ range. range.first ≤ number) range rest h in
-    ap (λ t. cond t (range ∷ filter (λ range. nat_le range.first number) rest) (filter (λ range. nat_le range.first number) rest)) (le-leb range.first number here)
-    ∙ ap (λ (kept : List Range). range ∷ kept) (kept_by number rest (All-tail (λ range. range.first ≤ number) range rest h))
+    ap (λ t. cond t (range ∷ filter (λ range. nat_le range.first number) rest)
+    (filter (λ range. nat_le range.first number) rest)) (le-leb range.first number here)
+    ∙ ap (λ (kept : List Range). range ∷ kept)
+    (kept_by number rest (All-tail (λ range. range.first ≤ number) range rest h))
 
 -- of ranges that all begin behind it, none is
-pub none_past : (number : ℕ) (ranges : List Range) → AllPast number ranges → filter (λ range. nat_le range.first number) ranges ≡ []
+pub none_past : (number : ℕ) (ranges : List Range) → AllPast number ranges
+    → filter (λ range. nat_le range.first number) ranges ≡ []
 none_past number [] h = refl
 none_past number (range ∷ rest) h =
     let here : number < range.first = All-head (λ range. number < range.first) range rest h in
-    ap (λ t. cond t (range ∷ filter (λ range. nat_le range.first number) rest) (filter (λ range. nat_le range.first number) rest)) (lt-leb range.first number here)
+    ap (λ t. cond t (range ∷ filter (λ range. nat_le range.first number) rest)
+    (filter (λ range. nat_le range.first number) rest)) (lt-leb range.first number here)
     ∙ none_past number rest (All-tail (λ range. number < range.first) range rest h)
 
 -- ---- the last row
 
 -- the last row of two lists
-pub last_row-append : (row : Option ℕ) (ranges more : List Range) → last_row row (ranges ++ more) ≡ last_row (last_row row ranges) more
+pub last_row-append : (row : Option ℕ) (ranges more : List Range)
+    → last_row row (ranges ++ more) ≡ last_row (last_row row ranges) more
 last_row-append row [] more = refl
 last_row-append row (range ∷ rest) more = last_row-append range.row rest more
 
@@ -66,11 +74,13 @@ rising-append (range ∷ rest) more g h low =
 -- the first of rising ranges rise
 pub rising_front : (ranges more : List Range) → AreRising (ranges ++ more) → AreRising ranges
 rising_front [] more h = tt
-rising_front (range ∷ rest) more h = (All-front (λ later. range.first ≤ later.first) rest more h.0, rising_front rest more h.1)
+rising_front (range ∷ rest) more h =
+    (All-front (λ later. range.first ≤ later.first) rest more h.0, rising_front rest more h.1)
   where
     All-front : (P : Range → Type 0) (xs ys : List Range) → All P (xs ++ ys) → All P xs
     All-front P [] ys h = All-nil P
-    All-front P (x ∷ xs) ys h = All-cons P x xs (All-head P x (xs ++ ys) h) (All-front P xs ys (All-tail P x (xs ++ ys) h))
+    All-front P (x ∷ xs) ys h = All-cons P x xs (All-head P x (xs ++ ys) h)
+        (All-front P xs ys (All-tail P x (xs ++ ys) h))
 
 -- and so do the last of them
 pub rising_back : (ranges more : List Range) → AreRising (ranges ++ more) → AreRising more
@@ -80,37 +90,47 @@ rising_back (range ∷ rest) more h = rising_back rest more h.1
 -- ---- a search
 
 -- a range begins by the number, and so do those before it
-pub begin_by : (ranges : List Range) (number at : ℕ) (e : Range) → AreRising ranges → at < length ranges → (get_or ranges at e).first ≤ number
+pub begin_by : (ranges : List Range) (number at : ℕ) (e : Range) → AreRising ranges → at < length ranges
+    → (get_or ranges at e).first ≤ number
     → (k : ℕ) (d : Range) → k < at + 1 → (get_or ranges k d).first ≤ number
 begin_by ranges number at e rising below here k d low =
-    let same : (get_or ranges at d).first ≡ (get_or ranges at e).first = ap (λ range. range.first) (get_or_default ranges at d e below) in
+    let same : (get_or ranges at d).first ≡ (get_or ranges at e).first =
+    ap (λ range. range.first) (get_or_default ranges at d e below) in
     omega (arith, rising_places ranges rising k at d (omega arith) below)
 
 -- a range begins behind the number, and so do those behind it
-pub begin_past : (ranges : List Range) (number at : ℕ) (e : Range) → AreRising ranges → at < length ranges → number < (get_or ranges at e).first
+pub begin_past : (ranges : List Range) (number at : ℕ) (e : Range) → AreRising ranges → at < length ranges
+    → number < (get_or ranges at e).first
     → (k : ℕ) (d : Range) → at ≤ k → k < length ranges → number < (get_or ranges k d).first
 begin_past ranges number at e rising below here k d high end =
-    let same : (get_or ranges at d).first ≡ (get_or ranges at e).first = ap (λ range. range.first) (get_or_default ranges at d e below) in
+    let same : (get_or ranges at d).first ≡ (get_or ranges at e).first =
+    ap (λ range. range.first) (get_or_default ranges at d e below) in
     omega (arith, rising_places ranges rising at k d high end)
 
 -- where the ranges before a place begin by the number and the others don't, the row is that before the place
-pub row_at-parted : (ranges : List Range) (number at : ℕ) → at ≤ length ranges → ((k : ℕ) (d : Range) → k < at → (get_or ranges k d).first ≤ number)
-    → ((k : ℕ) (d : Range) → at ≤ k → k < length ranges → number < (get_or ranges k d).first) → row_at ranges number ≡ last_row None (take at ranges)
+pub row_at-parted : (ranges : List Range) (number at : ℕ) → at ≤ length ranges
+    → ((k : ℕ) (d : Range) → k < at → (get_or ranges k d).first ≤ number)
+    → ((k : ℕ) (d : Range) → at ≤ k → k < length ranges → number < (get_or ranges k d).first)
+    → row_at ranges number ≡ last_row None (take at ranges)
 unfolding row_at
 row_at-parted ranges number at within before behind =
     let front : AllBy number (take at ranges) = λ k d below.
-    let low : k < at = omega (arith, length-take-le at ranges within) in rw (get_or-take at ranges k d low) (before k d low) in
+    let low : k < at = omega (arith, length-take-le at ranges within) in
+    rw (get_or-take at ranges k d low) (before k d low) in
     let back : AllPast number (drop at ranges) = λ k d below.
     rw (get_or-drop at ranges k d) (behind (at + k) d (omega arith) (omega (arith, length-drop at ranges))) in
     let parts = take-append-drop at ranges in
     let begun = filter (λ (range : Range). nat_le range.first number) in
     ap (λ all. last_row None (begun all)) (sym parts)
-    ∙ (ap (last_row None) (filter-append _ (take at ranges) (drop at ranges) ∙ (ap (λ kept. kept ++ begun (drop at ranges)) (kept_by number (take at ranges) front)
+    ∙ (ap (last_row None) (filter-append _ (take at ranges) (drop at ranges)
+    ∙ (ap (λ kept. kept ++ begun (drop at ranges)) (kept_by number (take at ranges) front)
     ∙ (ap (λ kept. take at ranges ++ kept) (none_past number (drop at ranges) back) ∙ append-nil (take at ranges)))))
 
 -- the row of the last of the first ranges
-pub last_row-more : (ranges : List Range) (i : ℕ) (d : Range) → i < length ranges → last_row None (take (i + 1) ranges) ≡ (get_or ranges i d).row
-last_row-more ranges i d below = ap (last_row None) (take_more ranges i d below) ∙ last_row-append None (take i ranges) (get_or ranges i d ∷ [])
+pub last_row-more : (ranges : List Range) (i : ℕ) (d : Range) → i < length ranges
+    → last_row None (take (i + 1) ranges) ≡ (get_or ranges i d).row
+last_row-more ranges i d below = ap (last_row None) (take_more ranges i d below)
+    ∙ last_row-append None (take i ranges) (get_or ranges i d ∷ [])
 
 -- a step that leaves at most half of a part that isn't empty
 pub step_halves : (from to wide left n : ℕ) → from ≤ to → 2 ^ (to - from) * wide ≤ n → 0 < wide → 2 * left ≤ wide

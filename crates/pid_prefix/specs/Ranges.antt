@@ -1,5 +1,5 @@
 -- Ranges of numbers, each from its first on up to the next one's first: which row they give a number.
-use Rattle.std.specs.Prelude.{◌≤◌, ℕ, List, [], ◌∷◌, Option, None, nat_le}
+use Rattle.std.specs.Prelude.{◌≤◌, ℕ, List, [], ◌∷◌, Option, None, nat_le, nat_lt}
 use Rattle.std.specs.List.{All, filter}
 use Rattle.pid_prefix.specs.declared.range.Range.{Range}
 
@@ -16,3 +16,13 @@ last_row row (range ∷ rest) = last_row range.row rest
 -- the row of the last range that begins at or before the number
 unfoldable pub row_at : List Range → ℕ → Option ℕ
 row_at ranges number = last_row None (filter (λ range. nat_le range.first number) ranges)
+
+-- the ranges with these firsts and these rows, one by one
+abbrev pub ranges_with : List ℕ → List (Option ℕ) → List Range
+ranges_with [] rows = []
+ranges_with (first ∷ firsts) [] = []
+ranges_with (first ∷ firsts) (row ∷ rows) = record { first = first; row = row } ∷ ranges_with firsts rows
+
+-- those that begin below a number
+abbrev pub below : ℕ → List Range → List Range
+below limit ranges = filter (λ range. nat_lt range.first limit) ranges

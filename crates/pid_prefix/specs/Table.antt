@@ -9,7 +9,7 @@ use Rattle.pid_prefix.specs.declared.family.Family.TheVariants as families
 use Rattle.pid_prefix.specs.declared.range.Range.{Range}
 use Rattle.pid_prefix.specs.Families.{address_of, leading_bits}
 use Rattle.pid_prefix.specs.Longest.{Row, AreDistinct, IsHeldBy}
-use Rattle.pid_prefix.specs.Ranges.{AreRising, row_at}
+use Rattle.pid_prefix.specs.Ranges.{AreRising, below, row_at}
 
 -- the row stands at the place
 abbrev pub StandsAt : List Row → ℕ → Row → Type 0
@@ -57,3 +57,8 @@ pub record IsTable (rows : List Row) (of_v4 of_v6 : List Range) : Type 0 where
 abbrev pub place_of : List Range → List Range → Addr → Option ℕ
 place_of of_v4 of_v6 (addr.V4 number) = row_at of_v4 number
 place_of of_v4 of_v6 (addr.V6 number) = row_at of_v6 number
+
+-- the ranges of both families in a table, without those that begin past the family's addresses
+abbrev pub AreNarrowed : List Row → List Range → List Range → Type 0
+AreNarrowed rows of_v4 of_v6 = (all_v4 all_v6 : List Range) × IsTable rows all_v4 all_v6
+    × (of_v4 ≡ below (2 ^ 32) all_v4) × (of_v6 ≡ below (2 ^ 128) all_v6)

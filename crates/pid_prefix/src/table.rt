@@ -1,12 +1,12 @@
 ghost use Rattle.std.specs.Prelude.{◌≡◌, ◌+◌, ◌-◌, ◌*◌, ◌^◌, ◌<◌, ◌≤◌, ℕ, IfOk, length, option_copied};
-ghost use Rattle.alto_addr.specs.Bits.{number_of};
+ghost use Rattle.alto_addr.specs.Bits.{HasBits};
 ghost use Rattle.pid_prefix.specs.Longest.{AreDistinct, longest_prefix};
 ghost use Rattle.pid_prefix.specs.Ranges.{AreRising};
 ghost use Rattle.pid_prefix.specs.Table.{place_of};
 
 use crate::blocks::ranges_of;
 use crate::family::Family;
-use crate::range::{Range, row_at};
+use crate::ranges::Ranges;
 use crate::sought::Sought;
 use crate::steps::Steps;
 use alto_addr::{Addr, Prefix};
@@ -17,12 +17,13 @@ use std::sync::ledger::{Blank, Ledger};
 
 /// Distinct prefixes with their PIDs, built for look-ups. A contract sees the list that it was built from.
 ///
-/// It keeps the list, 64 bytes for each prefix, and 2 ranges of 32 bytes each for a prefix at most. Names are shared.
+/// It keeps the list, 64 bytes for each prefix, and 2 ranges for a prefix at most: of 20 bytes each in IPv4, of which a
+/// search reads 4, and of 32 in IPv6, of which it reads 16. Names are shared.
 #[derive(Drop)]
 pub struct RangeTable {
     rows: Vec<(Prefix, PidName)>,
-    v4: Vec<Range>,
-    v6: Vec<Range>,
+    v4: Ranges<u32>,
+    v6: Ranges<u128>,
 }
 
 const _: () = prove!(size_of::<(Prefix, PidName)>() == 64);
@@ -30,13 +31,13 @@ const _: () = prove!(size_of::<(Prefix, PidName)>() == 64);
 impl Model for RangeTable {
     ghost use Rattle.std.specs.Prelude.{List};
     ghost use Rattle.pid_prefix.specs.Longest.{Row};
-    ghost use Rattle.pid_prefix.specs.Table.{IsTable};
+    ghost use Rattle.pid_prefix.specs.Table.{AreNarrowed};
 
     ghost Value = { List Row };
 
     ghost view = { λ table. table.rows.items };
 
-    ghost invariant = { λ table. IsTable table.rows.items table.v4.items table.v6.items };
+    ghost invariant = { λ table. AreNarrowed table.rows.items table.v4 table.v6 };
 }
 
 impl RangeTable {
@@ -46,8 +47,8 @@ impl RangeTable {
         requires { AreDistinct prefixes.now }
         ensures { IfOk result (λ table. table ≡ prefixes.now) }
     {
-        let v4 = ranges_of(alloc, Family::V4, prefixes)?;
-        let v6 = ranges_of(alloc, Family::V6, prefixes)?;
+        let v4 = Ranges::narrowed(alloc, &ranges_of(alloc, Family::V4, prefixes)?)?;
+        let v6 = Ranges::narrowed(alloc, &ranges_of(alloc, Family::V6, prefixes)?)?;
         let rows = copied(alloc, prefixes)?;
         Ok(RangeTable { rows, v4, v6 })
     }
@@ -84,22 +85,22 @@ impl RangeTable {
 
 /// What the ranges of the address's family give it.
 fn place_in<L: Ledger>(
-    v4: &[Range],
-    v6: &[Range],
+    v4: &Ranges<u32>,
+    v6: &Ranges<u128>,
     addr: &Addr,
     steps: &mut Steps<L>,
 ) -> Option<usize>
     requires v4 { AreRising v4.now }
     requires v6 { AreRising v6.now }
     ensures place { result ≡ place_of v4.now v6.now addr.now }
-    ensures fits { number_of addr.now < 2 ^ 128 }
+    ensures fits { HasBits addr.now }
     ensures counted { steps.old ≤ steps.new }
     ensures cost { (most : ℕ) → length v4.now ≤ most → length v6.now ≤ most
         → 2 ^ (steps.new - steps.old) ≤ 2 * most + 1 }
 {
     match *addr {
-        Addr::V4(number) => row_at(v4, &Sought::new(u128::from(number)), steps),
-        Addr::V6(number) => row_at(v6, &Sought::new(number), steps),
+        Addr::V4(number) => v4.row_at(&Sought::new(number), steps),
+        Addr::V6(number) => v6.row_at(&Sought::new(number), steps),
     }
 }
 

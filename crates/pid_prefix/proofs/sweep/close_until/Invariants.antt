@@ -7,7 +7,8 @@ use Rattle.pid_prefix.proofs.sweep.close_until.Given as goal
 -- what was swept still is, and no range begins behind the number
 abbrev pub invariant-loop-last : goal.invariant-loop-last
 invariant-loop-last l = record {
-  swept : (blocks : List Block) → IsSwept blocks l.fn.ranges.items l.fn.around.items → IsSwept blocks l.ranges.items l.around.items;
+  swept : (blocks : List Block) → IsSwept blocks l.fn.ranges.items l.fn.around.items
+      → IsSwept blocks l.ranges.items l.around.items;
   by : All (λ range. range.first ≤ l.number) l.fn.ranges.items → All (λ range. range.first ≤ l.number) l.ranges.items;
 }
 

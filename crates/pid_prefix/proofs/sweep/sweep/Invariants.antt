@@ -8,5 +8,6 @@ use Rattle.pid_prefix.proofs.sweep.sweep.Given as goal
 abbrev pub invariant-loop-block : goal.invariant-loop-block
 invariant-loop-block l = record {
   swept : IsSwept (take l.block-index l.blocks) l.ranges.items l.around.items;
-  by : (k : ℕ) (d : Block) → l.block-index ≤ k → k < length l.blocks → All (λ range. range.first ≤ (slice_index_or l.blocks k d).first) l.ranges.items;
+  by : (k : ℕ) (d : Block) → l.block-index ≤ k → k < length l.blocks
+      → All (λ range. range.first ≤ (slice_index_or l.blocks k d).first) l.ranges.items;
 }
