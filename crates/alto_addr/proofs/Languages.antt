@@ -1,12 +1,14 @@
 -- How the longest front of a text in a language made of others follows from theirs.
-use Rattle.std.proofs.Common.{◌≡◌, ◌≢◌, ℕ, zero, suc, ◌+◌, ◌≤◌, max, List, [], ◌∷◌, ◌++◌, length, take, refl, sym, ap, ◌∙◌, subst, inl, inr, arith, length-append}
+use Rattle.std.proofs.Common.{◌≡◌, ◌≢◌, ℕ, zero, suc, ◌+◌, ◌≤◌, max, List, [], ◌∷◌, ◌++◌, length, take, refl, sym, ap}
+use Rattle.std.proofs.Common.{◌∙◌, subst, inl, inr, arith, length-append}
 use Rattle.std.proofs.lemmas.Bool.{cases_lt}
 use Rattle.std.proofs.lemmas.List.{length-take-le}
 use Rattle.alto_addr.specs.Place.{Begins, IsLongestFront}
 use Rattle.alto_addr.specs.Languages.{Behind, Either, one, other, Nothing}
 
 -- a longest front in each of two languages
-pub IsLongestFront-Either : (One Other : List ℕ → Type 0) (text : List ℕ) (a b : ℕ) → IsLongestFront One text a → IsLongestFront Other text b
+pub IsLongestFront-Either : (One Other : List ℕ → Type 0) (text : List ℕ) (a b : ℕ) → IsLongestFront One text a
+    → IsLongestFront Other text b
     → IsLongestFront (Either One Other) text (max a b)
 IsLongestFront-Either One Other text a b h k = record {
   within = omega (arith, h.within, k.within);
@@ -28,7 +30,8 @@ IsLongestFront-Nothing text = record {
   within = omega arith;
   begins = ([], record { nothing = refl });
   longest = λ m within begins.
-      let e : length (take m text) + length begins.0 ≡ 0 = sym (length-append (take m text) begins.0) ∙ ap length begins.1.nothing in
+      let e : length (take m text) + length begins.0 ≡ 0 = sym (length-append (take m text) begins.0)
+      ∙ ap length begins.1.nothing in
       omega (arith, length-take-le m text within);
 }
 
@@ -49,7 +52,8 @@ IsLongestFront-Behind byte Second text n h = record {
         omega arith
 
 -- where another byte stands, or none, no byte goes along
-pub IsLongestFront-not_Behind : (byte : ℕ) (Second : List ℕ → Type 0) (text some : List ℕ) → Second some → ((rest : List ℕ) → text ≢ byte ∷ rest)
+pub IsLongestFront-not_Behind : (byte : ℕ) (Second : List ℕ → Type 0) (text some : List ℕ) → Second some
+    → ((rest : List ℕ) → text ≢ byte ∷ rest)
     → IsLongestFront (Behind byte Second) text 0
 IsLongestFront-not_Behind byte Second text some second not = record {
   within = omega arith;
@@ -57,7 +61,8 @@ IsLongestFront-not_Behind byte Second text some second not = record {
   longest = λ m. behind m text not;
 }
   where
-    behind : (m : ℕ) (text : List ℕ) → ((rest : List ℕ) → text ≢ byte ∷ rest) → m ≤ length text → Begins (Behind byte Second) (take m text) → m ≤ 0
+    behind : (m : ℕ) (text : List ℕ) → ((rest : List ℕ) → text ≢ byte ∷ rest) → m ≤ length text
+        → Begins (Behind byte Second) (take m text) → m ≤ 0
     behind zero text not within begins = omega arith
     behind (suc m) [] not within begins = within
     behind (suc m) (first ∷ text) not within begins =

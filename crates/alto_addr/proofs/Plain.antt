@@ -22,8 +22,11 @@ plain_slash (byte ∷ front) back h = plain_slash front back h.1
 
 plain_digits : (radix : ℕ) (text : List ℕ) → radix ≤ 16 → AllDigits radix text → IsPlain text
 plain_digits radix [] most h = tt
-plain_digits radix (byte ∷ text) most h =
-    (λ e. let bad : digit_value 47 < radix = subst (λ b. digit_value b < radix) e h.0 in absurd (omega arith), plain_digits radix text most h.1)
+plain_digits radix (byte ∷ text) most h = (
+  λ e. let bad : digit_value 47 < radix = subst (λ b. digit_value b < radix) e h.0 in
+      absurd (omega arith),
+  plain_digits radix text most h.1,
+)
 
 plain_octet : (text : List ℕ) → IsOctet text → IsPlain text
 plain_octet text h = plain_digits 10 text (lit≤ tt) (decimal_numeral 256 text (lit≤ tt) h).digits.1
@@ -45,17 +48,21 @@ unfolding Octets
 plain_octets zero text h = plain_octet text h
 plain_octets (suc n) text h =
     plain_parts text h.front h.back h.split (plain_octet h.front h.first)
-    (plain_behind 46 h.back h.second.back h.second.split (λ e. omega (arith, e)) (plain_octets n h.second.back h.second.second))
+    (plain_behind 46 h.back h.second.back h.second.split (λ e. omega (arith, e))
+    (plain_octets n h.second.back h.second.second))
 
-plain_tail_step : (n : ℕ) → ((text : List ℕ) → TailGroups n text → IsPlain text) → (text : List ℕ) → Either Nothing (Behind 58 (TailGroups n)) text → IsPlain text
+plain_tail_step : (n : ℕ) → ((text : List ℕ) → TailGroups n text → IsPlain text) → (text : List ℕ)
+    → Either Nothing (Behind 58 (TailGroups n)) text → IsPlain text
 plain_tail_step n later text (one h) = plain_nothing text h
-plain_tail_step n later text (other h) = plain_behind 58 text h.back h.split (λ e. omega (arith, e)) (later h.back h.second)
+plain_tail_step n later text (other h) =
+    plain_behind 58 text h.back h.split (λ e. omega (arith, e)) (later h.back h.second)
 
 plain_tail : (n : ℕ) (text : List ℕ) → TailGroups n text → IsPlain text
 unfolding TailGroups
 plain_tail zero text h = plain_group text h
 plain_tail (suc n) text (one h) =
-    plain_parts text h.front h.back h.split (plain_group h.front h.first) (plain_tail_step n (λ t. plain_tail n t) h.back h.second)
+    plain_parts text h.front h.back h.split (plain_group h.front h.first)
+    (plain_tail_step n (λ t. plain_tail n t) h.back h.second)
 plain_tail (suc n) text (other h) = plain_octets 3 text h
 
 plain_up_to : (n : ℕ) (text : List ℕ) → TailUpTo n text → IsPlain text
@@ -64,14 +71,18 @@ plain_up_to zero text h = plain_nothing text h
 plain_up_to (suc n) text (one h) = plain_nothing text h
 plain_up_to (suc n) text (other h) = plain_tail n text h
 
-plain_next : (n : ℕ) → ((text : List ℕ) → HeadGroups n text → IsPlain text) → (text : List ℕ) → Either (Behind 58 (TailUpTo n)) (HeadGroups n) text → IsPlain text
-plain_next n later text (one h) = plain_behind 58 text h.back h.split (λ e. omega (arith, e)) (plain_up_to n h.back h.second)
+plain_next : (n : ℕ) → ((text : List ℕ) → HeadGroups n text → IsPlain text) → (text : List ℕ)
+    → Either (Behind 58 (TailUpTo n)) (HeadGroups n) text → IsPlain text
+plain_next n later text (one h) =
+    plain_behind 58 text h.back h.split (λ e. omega (arith, e)) (plain_up_to n h.back h.second)
 plain_next n later text (other h) = later text h
 
-plain_then : (n : ℕ) → ((text : List ℕ) → HeadGroups n text → IsPlain text) → (text : List ℕ) → GroupThen n (HeadGroups n) text → IsPlain text
+plain_then : (n : ℕ) → ((text : List ℕ) → HeadGroups n text → IsPlain text) → (text : List ℕ)
+    → GroupThen n (HeadGroups n) text → IsPlain text
 plain_then n later text h =
     plain_parts text h.front h.back h.split (plain_group h.front h.first)
-    (plain_behind 58 h.back h.second.back h.second.split (λ e. omega (arith, e)) (plain_next n later h.second.back h.second.second))
+    (plain_behind 58 h.back h.second.back h.second.split (λ e. omega (arith, e))
+    (plain_next n later h.second.back h.second.second))
 
 plain_head : (n : ℕ) (text : List ℕ) → HeadGroups n text → IsPlain text
 unfolding HeadGroups
@@ -84,7 +95,8 @@ plain_colon_hex : (text : List ℕ) → ColonHex text → IsPlain text
 unfolding ColonHex
 plain_colon_hex text (one h) =
     plain_behind 58 text h.back h.split (λ e. omega (arith, e))
-    (plain_behind 58 h.back h.second.back h.second.split (λ e. omega (arith, e)) (plain_up_to 7 h.second.back h.second.second))
+    (plain_behind 58 h.back h.second.back h.second.split (λ e. omega (arith, e))
+    (plain_up_to 7 h.second.back h.second.second))
 plain_colon_hex text (other h) = plain_head 7 text h
 
 pub plain_address : (text : List ℕ) → Address text → IsPlain text

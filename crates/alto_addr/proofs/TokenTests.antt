@@ -1,5 +1,6 @@
 -- The tests of tokens tell just the tokens.
-use Rattle.std.proofs.Common.{◌≡◌, ◌≢◌, ℕ, ◌+◌, ◌-◌, ◌*◌, ◌<◌, ◌≤◌, Bool, true, false, ◌&&◌, ◌==◌, not, nat_le, nat_lt, List, [], ◌∷◌, length, decimal, refl, sym, ap, ◌∙◌, subst, arith, lit≤, true≢false}
+use Rattle.std.proofs.Common.{◌≡◌, ◌≢◌, ℕ, ◌+◌, ◌-◌, ◌*◌, ◌<◌, ◌≤◌, Bool, true, false, ◌&&◌, ◌==◌, not, nat_le, nat_lt}
+use Rattle.std.proofs.Common.{List, [], ◌∷◌, length, decimal, refl, sym, ap, ◌∙◌, subst, arith, lit≤, true≢false}
 use Rattle.std.proofs.lemmas.Bool.Decides.{nat_tests}
 use Rattle.std.proofs.lemmas.Fmt.{decimal_is_IsNumeral}
 use Rattle.std.proofs.lemmas.Str.Parse.{digits_value-take-le, digit_from_value}
@@ -47,7 +48,8 @@ test_of_lt a b h = grind (arith, nat_tests)
 pub value_of_one : (a : ℕ) → IsInRange 48 57 a → digits_value 10 (a ∷ []) ≡ a - 48
 value_of_one a h = omega (arith, value_of_digit a h)
 
-pub value_of_two : (a b : ℕ) → IsInRange 48 57 a → IsInRange 48 57 b → digits_value 10 (a ∷ b ∷ []) ≡ (a - 48) * 10 + (b - 48)
+pub value_of_two : (a b : ℕ) → IsInRange 48 57 a → IsInRange 48 57 b
+    → digits_value 10 (a ∷ b ∷ []) ≡ (a - 48) * 10 + (b - 48)
 value_of_two a b h k = omega (arith, value_of_digit a h, value_of_digit b k)
 
 pub value_of_three : (a b c : ℕ) → IsInRange 48 57 a → IsInRange 48 57 b → IsInRange 48 57 c
@@ -64,7 +66,11 @@ module _ (limit : ℕ) (above : 100 ≤ limit) (most : limit ≤ 1000) where
   two_digits a b h some k =
       let value_a = value_of_digit a h in
       let value_b = value_of_digit b k in
-      record { digits = (omega arith, (omega arith, (omega arith, tt))); alone = λ e. absurd (some e); fits = omega (arith, value_of_two a b h k) }
+      record {
+        digits = (omega arith, (omega arith, (omega arith, tt)));
+        alone = λ e. absurd (some e);
+        fits = omega (arith, value_of_two a b h k);
+      }
 
   three_digits : (a b c : ℕ) → IsInRange 48 57 a → a ≢ 48 → IsInRange 48 57 b → IsInRange 48 57 c
       → (a - 48) * 100 + (b - 48) * 10 + (c - 48) < limit → IsShortNumeral limit (a ∷ b ∷ c ∷ [])
@@ -72,7 +78,11 @@ module _ (limit : ℕ) (above : 100 ≤ limit) (most : limit ≤ 1000) where
       let value_a = value_of_digit a h in
       let value_b = value_of_digit b k in
       let value_c = value_of_digit c j in
-      record { digits = (omega arith, (omega arith, (omega arith, (omega arith, tt)))); alone = λ e. absurd (some e); fits = omega (arith, value_of_three a b c h k j) }
+      record {
+        digits = (omega arith, (omega arith, (omega arith, (omega arith, tt))));
+        alone = λ e. absurd (some e);
+        fits = omega (arith, value_of_three a b c h k j);
+      }
 
   tested : (text : List ℕ) → decimal_test limit text ≡ true → IsShortNumeral limit text
   tested [] h = cc
@@ -86,7 +96,8 @@ module _ (limit : ℕ) (above : 100 ≤ limit) (most : limit ≤ 1000) where
       let (two, last) = both_true _ _ digits in
       let (front, second) = both_true _ _ two in
       let (first, some) = both_true _ _ front in
-      three_digits a b c (digit_tested a first) (not_zero_tested a some) (digit_tested b second) (digit_tested c last) (lt_tested _ _ fits)
+      three_digits a b c (digit_tested a first) (not_zero_tested a some) (digit_tested b second) (digit_tested c last)
+      (lt_tested _ _ fits)
   tested (a ∷ b ∷ c ∷ d ∷ rest) h = cc
 
   test_of : (text : List ℕ) → IsShortNumeral limit text → decimal_test limit text ≡ true
@@ -102,13 +113,16 @@ module _ (limit : ℕ) (above : 100 ≤ limit) (most : limit ≤ 1000) where
       let second = digit_from_value b h.digits.1.1.0 in
       let third = digit_from_value c h.digits.1.1.1.0 in
       let some : a ≢ 48 = λ e. let one : 3 ≡ 1 = h.alone e in absurd (omega (arith, one)) in
-      let fits : (a - 48) * 100 + (b - 48) * 10 + (c - 48) < limit = omega (arith, h.fits, value_of_three a b c first second third) in
-      and_true _ _ (and_true _ _ (and_true _ _ (and_true _ _ (test_of_digit a first) (test_of_not_zero a some)) (test_of_digit b second)) (test_of_digit c third)) (test_of_lt _ _ fits)
+      let fits : (a - 48) * 100 + (b - 48) * 10 + (c - 48) < limit =
+      omega (arith, h.fits, value_of_three a b c first second third) in
+      and_true _ _ (and_true _ _ (and_true _ _ (and_true _ _ (test_of_digit a first) (test_of_not_zero a some))
+      (test_of_digit b second)) (test_of_digit c third)) (test_of_lt _ _ fits)
   test_of (a ∷ b ∷ c ∷ d ∷ rest) h =
       let first = digit_from_value a h.digits.1.0 in
       let some : a ≢ 48 = λ e. let one : length (a ∷ b ∷ c ∷ d ∷ rest) ≡ 1 = h.alone e in absurd (omega (arith, one)) in
       let value_a = value_of_digit a first in
-      let small : digits_value 10 (a ∷ b ∷ c ∷ d ∷ []) ≤ digits_value 10 (a ∷ b ∷ c ∷ d ∷ rest) = digits_value-take-le 10 (a ∷ b ∷ c ∷ d ∷ rest) 4 (lit≤ tt) in
+      let small : digits_value 10 (a ∷ b ∷ c ∷ d ∷ []) ≤ digits_value 10 (a ∷ b ∷ c ∷ d ∷ rest) =
+      digits_value-take-le 10 (a ∷ b ∷ c ∷ d ∷ rest) 4 (lit≤ tt) in
       absurd (omega (arith, h.fits))
 
   pub decimal_tested : (text : List ℕ) → decimal_test limit text ≡ true → IsDecimal limit text
@@ -138,12 +152,15 @@ group_tested text h =
 pub group_refused : (text : List ℕ) → group_test text ≡ false → IsGroup text → ⊥
 group_refused text h group =
     let some : nat_lt 0 (length text) ≡ true = (let more = group.digits.0 in grind (arith, nat_tests)) in
-    true≢false (sym (and_true _ _ (and_true _ _ some (test_of_le _ _ group.short)) (test_of_digits text group.digits.1)) ∙ h)
+    true≢false (sym (and_true _ _ (and_true _ _ some (test_of_le _ _ group.short)) (test_of_digits text group.digits.1))
+    ∙ h)
 
 -- the digits of a length write its value
-pub value_is : (text : List ℕ) (value : ℕ) → decimal_test 1000 text ≡ true → value ≡ digits_value 10 text → (text ≡ decimal value) × (value < 1000)
+pub value_is : (text : List ℕ) (value : ℕ) → decimal_test 1000 text ≡ true → value ≡ digits_value 10 text
+    → (text ≡ decimal value) × (value < 1000)
 value_is text value h e =
     let number = decimal_tested 1000 (lit≤ tt) (lit≤ tt) text h in
-    let written : digits_value 10 (decimal number.value) ≡ number.value = (decimal_is_IsNumeral number.value (omega (arith, number.fits))).1 in
+    let written : digits_value 10 (decimal number.value) ≡ number.value =
+    (decimal_is_IsNumeral number.value (omega (arith, number.fits))).1 in
     let same : number.value ≡ value = sym written ∙ ap (digits_value 10) (sym number.spelled) ∙ sym e in
     (number.spelled ∙ ap decimal same, subst (λ n. n < 1000) same number.fits)

@@ -1,5 +1,6 @@
 -- What the tokens of addresses are: no front of one is another kind of text.
-use Rattle.std.proofs.Common.{◌≡◌, ℕ, zero, suc, ◌^◌, ◌<◌, ◌≤◌, List, [], ◌∷◌, ◌++◌, length, get_or, take, decimal, sym, ap, ◌∙◌, subst, inl, inr, arith, append-nil, length-append, lit≤, get_or-take}
+use Rattle.std.proofs.Common.{◌≡◌, ℕ, zero, suc, ◌^◌, ◌<◌, ◌≤◌, List, [], ◌∷◌, ◌++◌, length, get_or, take, decimal, sym}
+use Rattle.std.proofs.Common.{ap, ◌∙◌, subst, inl, inr, arith, append-nil, length-append, lit≤, get_or-take}
 use Rattle.std.proofs.lemmas.Bool.{cases_lt}
 use Rattle.std.proofs.lemmas.List.{take-append-le, take-take, length-take-le}
 use Rattle.std.proofs.lemmas.Fmt.{decimal_is_IsNumeral, decimal_digit, first_decimal, decimal-digits_value}
@@ -42,13 +43,15 @@ numeral_of_value limit value most fits =
     }
 
 pub decimal_numeral : (limit : ℕ) (text : List ℕ) → limit ≤ 1000 → IsDecimal limit text → IsShortNumeral limit text
-decimal_numeral limit text most h = subst (IsShortNumeral limit) (sym h.spelled) (numeral_of_value limit h.value most h.fits)
+decimal_numeral limit text most h =
+    subst (IsShortNumeral limit) (sym h.spelled) (numeral_of_value limit h.value most h.fits)
 
 pub numeral_decimal : (limit : ℕ) (text : List ℕ) → limit ≤ 1000 → IsShortNumeral limit text → IsDecimal limit text
 numeral_decimal limit text most h = record {
   value = digits_value 10 text;
   fits = h.fits;
-  spelled = sym (decimal-digits_value (numerals_by_value _ tells_digits) text h.digits.1 h.digits.0 h.alone (omega (arith, h.fits)));
+  spelled = sym (decimal-digits_value (numerals_by_value _ tells_digits) text h.digits.1 h.digits.0
+      h.alone (omega (arith, h.fits)));
 }
 
 pub IsToken-IsDecimal : (limit : ℕ) → limit ≤ 1000 → IsToken (IsDecimal limit)
@@ -81,7 +84,8 @@ IsToken-IsGroup = record {
 }
 
 -- the longest front that is a token is the longest front that begins one
-pub IsLongestFront-Token : (Token : List ℕ → Type 0) → IsToken Token → (some text : List ℕ) (n : ℕ) → Token some → IsTokenFront Token text n
+pub IsLongestFront-Token : (Token : List ℕ → Type 0) → IsToken Token → (some text : List ℕ) (n : ℕ) → Token some
+    → IsTokenFront Token text n
     → IsLongestFront Token text n
 IsLongestFront-Token Token token some text n is_token front = record {
   within = front.within;
@@ -96,7 +100,8 @@ IsLongestFront-Token Token token some text n is_token front = record {
     | inl more ↦
         let size = length-take-le m text within in
         let whole : Token (take m (take m text ++ begins.0)) =
-        token.closed m (take m text ++ begins.0) more (omega (arith, size, length-append (take m text) begins.0)) begins.1 in
+        token.closed m (take m text ++ begins.0)
+        more (omega (arith, size, length-append (take m text) begins.0)) begins.1 in
         front.longest m within
         (subst Token (take-append-le m (take m text) begins.0 (omega arith) ∙ take-take m m text (omega arith)) whole)
   ];

@@ -59,7 +59,8 @@ short_length : (addr : Addr) (len : ℕ) → IsPrefix addr len → len < 1000
 short_length (V4 number) len h = omega (arith, h.0)
 short_length (V6 number) len h = omega (arith, h.0)
 
-pub prefix_as_written : (addr : Addr) (len : ℕ) → HasBits addr → IsPrefix addr len → IsPrefixText (prefix_text addr len) addr len
+pub prefix_as_written : (addr : Addr) (len : ℕ) → HasBits addr → IsPrefix addr len
+    → IsPrefixText (prefix_text addr len) addr len
 prefix_as_written addr len fits h = record {
   addr_text = addr_text addr;
   spelled = refl;

@@ -18,7 +18,8 @@ fn behind(text: &[u8], byte: u8) -> Option<&[u8]>
 /// The same behind the first `n` bytes.
 pub(crate) fn behind_front(text: &[u8], n: usize, byte: u8) -> Option<&[u8]>
     requires { n ≤ length text.now }
-    ensures { MatchOption result ((rest : List ℕ) → drop n text.now ≢ byte ∷ rest) (λ rest. drop n text.now ≡ byte ∷ rest.now) }
+    ensures { MatchOption result ((rest : List ℕ) → drop n text.now ≢ byte ∷ rest)
+        (λ rest. drop n text.now ≡ byte ∷ rest.now) }
 {
     behind(&text[n..], byte)
 }

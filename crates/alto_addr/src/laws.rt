@@ -16,7 +16,8 @@ pub fn text_writes_one_address()
 
 /// A text writes one prefix at most.
 pub fn text_writes_one_prefix()
-    ensures { (text : List ℕ) (one other : Addr) (len size : ℕ) → IsPrefixText text one len → IsPrefixText text other size
+    ensures { (text : List ℕ) (one other : Addr) (len size : ℕ)
+        → IsPrefixText text one len → IsPrefixText text other size
         → (one ≡ other) × (len ≡ size) }
 {}
 
@@ -28,7 +29,8 @@ pub fn address_reads_as_written()
 
 /// What is written of a prefix reads as that prefix.
 pub fn prefix_reads_as_written()
-    ensures { (addr : Addr) (len : ℕ) → HasBits addr → IsPrefix addr len → IsPrefixText (prefix_text addr len) addr len }
+    ensures { (addr : Addr) (len : ℕ) → HasBits addr → IsPrefix addr len
+        → IsPrefixText (prefix_text addr len) addr len }
 {}
 
 /// What is written of an IPv6 address has its longest run of two or more zero groups as `::`, the first on a tie.
@@ -44,6 +46,7 @@ pub fn order_is_by_family()
 
 /// The addresses of a prefix that is inside another are the other's.
 pub fn inner_addresses_are_outer()
-    ensures { (inner outer addr : Addr) (inner_len outer_len : ℕ) → HasLength inner inner_len → IsInside inner inner_len outer outer_len
+    ensures { (inner outer addr : Addr) (inner_len outer_len : ℕ)
+        → HasLength inner inner_len → IsInside inner inner_len outer outer_len
         → Holds inner inner_len addr → Holds outer outer_len addr }
 {}

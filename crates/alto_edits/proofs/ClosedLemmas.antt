@@ -42,20 +42,26 @@ pub names_closed : (declared : Key) → declares declared ≡ true → IsClosed 
 names_closed declared h = record {
   epoch = λ v. rw (apart_epoch declared h) refl;
   window = λ v. rw (apart_window declared h) refl;
-  needs = λ at need v w stays among. apart at need v w among (or_parts (same_key declared at) (is_among declared (needs at v)) stays).1;
+  needs = λ at need v w stays among. apart at need v w
+      among (or_parts (same_key declared at) (is_among declared (needs at v)) stays).1;
 }
   where
-    apart : (at need : Key) (v w : Value) → is_among need (needs at v) ≡ true → is_among declared (needs at v) ≡ false → names declared (need, w) ≡ false
+    apart : (at need : Key) (v w : Value) → is_among need (needs at v) ≡ true → is_among declared (needs at v) ≡ false
+        → names declared (need, w) ≡ false
     apart at need v w among out =
         or_from (same_key declared need) (is_among declared (needs need w))
-        (false_from_ne_true (same_key declared need) (λ e. both_ways (is_among declared (needs at v)) out (rw (one_key declared need e) among)))
-        (false_from_ne_true (is_among declared (needs need w)) (λ e. both_ways (is_among declared (needs at v)) out (needs_transitive declared need at v w among e)))
+        (false_from_ne_true (same_key declared need)
+        (λ e. both_ways (is_among declared (needs at v)) out (rw (one_key declared need e) among)))
+        (false_from_ne_true (is_among declared (needs need w))
+        (λ e. both_ways (is_among declared (needs at v)) out (needs_transitive declared need at v w among e)))
 
 -- sound rows stay so when a declared thing is withdrawn
-pub sound_withdrawing : (rows : Rows) (declared : Key) → AreSound rows → declares declared ≡ true → AreSound (after rows (withdrawing rows declared))
+pub sound_withdrawing : (rows : Rows) (declared : Key) → AreSound rows → declares declared ≡ true
+    → AreSound (after rows (withdrawing rows declared))
 sound_withdrawing rows declared sound h =
     sound_without (names declared) rows (after rows (withdrawing rows declared)) sound (names_closed declared h)
-    (sorted_after rows (withdrawing rows declared) sound.sorted) (λ at. value_of-deletions (names declared) rows at sound.sorted)
+    (sorted_after rows (withdrawing rows declared) sound.sorted)
+    (λ at. value_of-deletions (names declared) rows at sound.sorted)
 
 -- ---- rows that nothing needs
 
@@ -73,7 +79,8 @@ declares_no_leaf (key.Ane net ane) h = refl
 declares_no_leaf _ h = cc
 
 -- no row needs one that passes a test of leaves alone
-pub leaves_closed : (goes : Key × Value → Bool) → ((at : Key) (v : Value) → is_leaf at ≡ false → goes (at, v) ≡ false) → IsClosed goes
+pub leaves_closed : (goes : Key × Value → Bool) → ((at : Key) (v : Value) → is_leaf at ≡ false → goes (at, v) ≡ false)
+    → IsClosed goes
 leaves_closed goes leaves = record {
   epoch = λ v. leaves key.Epoch v refl;
   window = λ v. leaves key.Window v refl;
@@ -81,7 +88,8 @@ leaves_closed goes leaves = record {
 }
 
 -- sound rows stay so without one leaf
-pub sound_deleting : (rows : Rows) (gone : Key) → AreSound rows → is_leaf gone ≡ true → AreSound (with_value rows gone None)
+pub sound_deleting : (rows : Rows) (gone : Key) → AreSound rows → is_leaf gone ≡ true
+    → AreSound (with_value rows gone None)
 sound_deleting rows gone sound leaf =
     sound_without goes rows (with_value rows gone None) sound (leaves_closed goes apart)
     (sorted_with_value rows gone None sound.sorted) (λ at. value_of-deletion rows gone at sound.sorted)
@@ -90,7 +98,8 @@ sound_deleting rows gone sound leaf =
     goes row = is_eq (key_cmp row.0 gone)
 
     apart : (at : Key) (v : Value) → is_leaf at ≡ false → is_eq (key_cmp at gone) ≡ false
-    apart at v h = false_from_ne_true (is_eq (key_cmp at gone)) (λ e. both_ways (is_leaf at) h (rw (one_key at gone e) leaf))
+    apart at v h = false_from_ne_true (is_eq (key_cmp at gone))
+        (λ e. both_ways (is_leaf at) h (rw (one_key at gone e) leaf))
 
 -- ---- a prefix that is taken from other PIDs
 
@@ -113,28 +122,33 @@ filter-both p q (x ∷ xs) = by (filter-both p q xs) (p x) (q x) refl refl
 pub taking-elsewhere : (rows : Rows) (net pid : List ℕ) (prefix : Prefix)
     → taking rows net pid prefix ≡ map deletion (filter (is_elsewhere net pid prefix) rows)
 taking-elsewhere rows net pid prefix =
-    ap (λ (gone : Rows). map deletion gone) (filter-both (owns net prefix) (λ row. not (same_key (key.Prefix net pid prefix) row.0)) rows)
+    ap (λ (gone : Rows). map deletion gone)
+    (filter-both (owns net prefix) (λ row. not (same_key (key.Prefix net pid prefix) row.0)) rows)
 
 -- rows that give a prefix are leaves
-pub elsewhere_leaf : (net pid : List ℕ) (prefix : Prefix) (at : Key) (v : Value) → is_leaf at ≡ false → is_elsewhere net pid prefix (at, v) ≡ false
+pub elsewhere_leaf : (net pid : List ℕ) (prefix : Prefix) (at : Key) (v : Value) → is_leaf at ≡ false
+    → is_elsewhere net pid prefix (at, v) ≡ false
 elsewhere_leaf net pid prefix (key.Prefix of other given) v h = cc
 elsewhere_leaf net pid prefix _ v h = refl
 
 -- the value at a key after a prefix is taken
 pub value_of-taking : (rows : Rows) (net pid : List ℕ) (prefix : Prefix) (at : Key) → AreSound rows
-    → value_of (after rows (taking rows net pid prefix)) at ≡ left_of (is_elsewhere net pid prefix) at (value_of rows at)
+    → value_of (after rows (taking rows net pid prefix)) at
+    ≡ left_of (is_elsewhere net pid prefix) at (value_of rows at)
 value_of-taking rows net pid prefix at sound =
     rw (taking-elsewhere rows net pid prefix) (value_of-deletions (is_elsewhere net pid prefix) rows at sound.sorted)
 
 -- sound rows stay so when a prefix is taken
-pub sound_taking : (rows : Rows) (net pid : List ℕ) (prefix : Prefix) → AreSound rows → AreSound (after rows (taking rows net pid prefix))
+pub sound_taking : (rows : Rows) (net pid : List ℕ) (prefix : Prefix) → AreSound rows
+    → AreSound (after rows (taking rows net pid prefix))
 sound_taking rows net pid prefix sound =
     sound_without (is_elsewhere net pid prefix) rows (after rows (taking rows net pid prefix)) sound
     (leaves_closed (is_elsewhere net pid prefix) (elsewhere_leaf net pid prefix))
     (sorted_after rows (taking rows net pid prefix) sound.sorted) (λ at. value_of-taking rows net pid prefix at sound)
 
 -- a row that is no leaf stays when a prefix is taken
-pub has_row-taking : (rows : Rows) (net pid : List ℕ) (prefix : Prefix) (at : Key) → AreSound rows → is_leaf at ≡ false → has_row rows at ≡ true
+pub has_row-taking : (rows : Rows) (net pid : List ℕ) (prefix : Prefix) (at : Key) → AreSound rows → is_leaf at ≡ false
+    → has_row rows at ≡ true
     → has_row (after rows (taking rows net pid prefix)) at ≡ true
 has_row-taking rows net pid prefix at sound leaf h =
     rw (value_of-taking rows net pid prefix at sound)
@@ -153,23 +167,31 @@ taken_alone rows net pid prefix sound of owner other given e h =
     let pids : pid ≡ owner = cc in
     let prefixes : prefix ≡ given = cc in
     let here : has_row (after rows (taking rows net pid prefix)) (key.Prefix net other given) ≡ true =
-    subst (λ (n : List ℕ). has_row (after rows (taking rows net pid prefix)) (key.Prefix n other given) ≡ true) (sym nets) h in
-    alone other (subst (λ (x : Prefix). has_row (after rows (taking rows net pid prefix)) (key.Prefix net other x) ≡ true) (sym prefixes) here) ∙ pids
+    subst (λ (n : List ℕ). has_row (after rows (taking rows net pid prefix)) (key.Prefix n other given)
+    ≡ true) (sym nets) h in
+    alone other (subst (λ (x : Prefix). has_row (after rows (taking rows net pid prefix)) (key.Prefix net other x)
+    ≡ true) (sym prefixes) here) ∙ pids
   where
     one : (other : List ℕ) → key.Prefix net pid prefix ≡ key.Prefix net other prefix → other ≡ pid
     one other e = cc
 
     mine : (other : List ℕ) (v : Value) → is_elsewhere net pid prefix (key.Prefix net other prefix, v) ≡ false
         → same_key (key.Prefix net pid prefix) (key.Prefix net other prefix) ≡ true
-    mine other v h = not-false (same_key (key.Prefix net pid prefix) (key.Prefix net other prefix)) (rw (same_name_itself net, prefix_itself prefix) at h)
+    mine other v h = not-false (same_key (key.Prefix net pid prefix) (key.Prefix net other prefix))
+        (rw (same_name_itself net, prefix_itself prefix) at h)
 
-    by : (other : List ℕ) (o : Option Value) → value_of (after rows (taking rows net pid prefix)) (key.Prefix net other prefix) ≡ o → is_some o ≡ true → other ≡ pid
+    by : (other : List ℕ) (o : Option Value)
+        → value_of (after rows (taking rows net pid prefix)) (key.Prefix net other prefix) ≡ o
+        → is_some o ≡ true → other ≡ pid
     by other None e h = cc
     by other (Some v) e h =
-        let was : (value_of rows (key.Prefix net other prefix) ≡ Some v) × (is_elsewhere net pid prefix (key.Prefix net other prefix, v) ≡ false) =
-        left_was (is_elsewhere net pid prefix) (key.Prefix net other prefix) (value_of rows (key.Prefix net other prefix)) v
+        let was : (value_of rows (key.Prefix net other prefix) ≡ Some v)
+        × (is_elsewhere net pid prefix (key.Prefix net other prefix, v) ≡ false) =
+        left_was (is_elsewhere net pid prefix) (key.Prefix net other prefix)
+        (value_of rows (key.Prefix net other prefix)) v
         (sym (value_of-taking rows net pid prefix (key.Prefix net other prefix) sound) ∙ e) in
         one other (one_key (key.Prefix net pid prefix) (key.Prefix net other prefix) (mine other v was.1))
 
-    alone : (other : List ℕ) → has_row (after rows (taking rows net pid prefix)) (key.Prefix net other prefix) ≡ true → other ≡ pid
+    alone : (other : List ℕ) → has_row (after rows (taking rows net pid prefix)) (key.Prefix net other prefix) ≡ true
+        → other ≡ pid
     alone other h = by other (value_of (after rows (taking rows net pid prefix)) (key.Prefix net other prefix)) refl h

@@ -6,7 +6,8 @@ use Rattle.alto_http.specs.declared.fault.HeadFault.TheVariants.{TooLarge, BadHe
 use Rattle.alto_http.specs.declared.fault.HeadFault.TheVariants.{ReadFault, Memory}
 
 -- a piece came from the link, and stands behind the bytes that were ahead
-pub record ReadsAhead (ahead : List ℕ) (left : Option (List ℕ)) (ahead' : List ℕ) (left' : Option (List ℕ)) : Type 0 where
+pub record ReadsAhead (ahead : List ℕ) (left : Option (List ℕ)) (ahead' : List ℕ) (left' : Option (List ℕ))
+    : Type 0 where
   pub piece : List ℕ
   pub behind : ahead' ≡ ahead ++ piece
   pub given : left ≡ followed_by piece left'

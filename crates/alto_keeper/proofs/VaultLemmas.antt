@@ -1,5 +1,6 @@
 -- What a vault in memory holds after one of its paths was changed.
-use Rattle.std.proofs.Common.{◌≡◌, ◌≢◌, ℕ, Bool, true, false, List, Option, Some, None, IsTrue, is_some, unwrap_or, cond, String, string_bytes, bytes_eq, refl, sym, ap, subst, ◌∙◌}
+use Rattle.std.proofs.Common.{◌≡◌, ◌≢◌, ℕ, Bool, true, false, List, Option, Some, None, IsTrue, is_some, unwrap_or}
+use Rattle.std.proofs.Common.{cond, String, string_bytes, bytes_eq, refl, sym, ap, subst, ◌∙◌}
 use Rattle.std.specs.BTreeMap.{BTreeMap, UpdatesBy, get_by_text}
 use Rattle.std.specs.Cmp.Lexicographic.{slice_cmp}
 use Rattle.std.specs.Ordering.{nat_cmp}
@@ -25,7 +26,8 @@ pub remembered : (path : List ℕ) (old new : Places) (stored : StoredData) → 
     → IsTrue (is_some (get_by_text old other)) → IsTrue (is_some (get_by_text new other))
 remembered path old new stored puts other known =
     subst (λ (it : Option StoredData). IsTrue (is_some it))
-    (sym (btree_map_updates_text path old new (Some stored) puts other)) (still_there (bytes_eq path other) stored _ known)
+    (sym (btree_map_updates_text path old new (Some stored) puts other))
+    (still_there (bytes_eq path other) stored _ known)
 
 none_there : (there : Option StoredData) → is_some there ≡ false → there ≡ None
 none_there None h = refl
@@ -40,7 +42,8 @@ by_test false stored there same = refl
 pub learned : (path : List ℕ) (old new : Places) → is_some (get_by_text old path) ≡ false → Puts path old new nothing
     → (other : List ℕ) → unwrap_or (get_by_text new other) nothing ≡ unwrap_or (get_by_text old other) nothing
 learned path old new absent puts other =
-    ap (λ (it : Option StoredData). unwrap_or it nothing) (btree_map_updates_text path old new (Some nothing) puts other)
+    ap (λ (it : Option StoredData). unwrap_or it nothing)
+    (btree_map_updates_text path old new (Some nothing) puts other)
     ∙ by_test (bytes_eq path other) nothing _ (λ same.
     let one : path ≡ other = (bytes_eq-Decides path other).0 same in
     ap (λ (it : Option StoredData). unwrap_or it nothing)

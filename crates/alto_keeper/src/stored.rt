@@ -79,7 +79,8 @@ impl Stored {
     /// Puts another base in place of the one before, which takes in the rows with the numbers 1 to `upto`.
     #[tactic(auto, using(std::proofs::lemmas::List::Elements::filter_from_retain))]
     pub(crate) fn rebase(&mut self, base: Vec<StoredRow>, upto: i64)
-        ensures { self.new ≡ record { base = base.items; rows = filter (λ row. not (is_taken_in upto row)) self.old.rows } }
+        ensures { self.new
+            ≡ record { base = base.items; rows = filter (λ row. not (is_taken_in upto row)) self.old.rows } }
     {
         self.base = base;
         self.rows.retain(move |row| !is_taken_in(upto, row.n));

@@ -17,7 +17,12 @@ abbrev net_shape : Shape
 net_shape = record { section = codes "network-map"; path = codes "vtag" ∷ codes "tag" ∷ [] }
 
 abbrev meta_with : List ℕ → Data
-meta_with tag = object_of ((codes "vtag", object_of ((codes "resource-id", string (codes "metro")) ∷ (codes "tag", string tag) ∷ [])) ∷ [])
+meta_with tag =
+    object_of ((
+      codes "vtag",
+      object_of ((codes "resource-id", string (codes "metro"))
+          ∷ (codes "tag", string tag) ∷ []),
+    ) ∷ [])
 
 abbrev prefixes : List ℕ → Data
 prefixes text = array (items_of (string text ∷ []))
@@ -44,7 +49,8 @@ after = record {
 abbrev places : List Place
 places =
     place.Group (codes "north") ∷ place.Group (codes "west")
-    ∷ place.Member (codes "east") (codes "ipv4") ∷ place.Member (codes "north") (codes "ipv4") ∷ place.Member (codes "west") (codes "ipv6")
+    ∷ place.Member (codes "east") (codes "ipv4") ∷ place.Member (codes "north") (codes "ipv4")
+    ∷ place.Member (codes "west") (codes "ipv6")
     ∷ place.Meta ∷ place.Nowhere ∷ []
 
 merge_worked : merge_form net_shape after places
@@ -63,13 +69,17 @@ merge_worked = refl
 operations_worked : operation_form net_shape before after places
     ≡ record { path = codes "meta" ∷ codes "vtag" ∷ codes "tag" ∷ []; action = replace (string (codes "e1-3")) }
     ∷ record { path = codes "network-map" ∷ codes "east" ∷ codes "ipv4" ∷ []; action = add (prefixes (codes "two")) }
-    ∷ record { path = codes "network-map" ∷ codes "north" ∷ []; action = add (object_of ((codes "ipv4", prefixes (codes "three")) ∷ [])) }
+    ∷ record {
+      path = codes "network-map" ∷ codes "north" ∷ [];
+      action = add (object_of ((codes "ipv4", prefixes (codes "three")) ∷ []));
+    }
     ∷ record { path = codes "network-map" ∷ codes "west" ∷ []; action = remove }
     ∷ []
 unfolding operation_form with_member set_of
 operations_worked = refl
 
-leads_worked : operations_applied (operation_form net_shape before after places) (document net_shape before) ≡ Ok (document net_shape after)
+leads_worked : operations_applied (operation_form net_shape before after places) (document net_shape before)
+    ≡ Ok (document net_shape after)
 unfolding document operation_form operations_applied with_member set_of
 leads_worked = refl
 

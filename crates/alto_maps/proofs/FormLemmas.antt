@@ -10,7 +10,8 @@ use Rattle.json_patch.specs.Operations.{Operation}
 use Rattle.alto_maps.specs.Shape.{Name, Shape, Face}
 use Rattle.alto_maps.specs.Places.{touched_groups, touched_members}
 use Rattle.alto_maps.specs.Touched.{Touched, touched_parts}
-use Rattle.alto_maps.specs.MergeForm.{part, with_members, meta_change, change_of, group_change, section_change, merge_form}
+use Rattle.alto_maps.specs.MergeForm.{part, with_members, meta_change, change_of, group_change, section_change}
+use Rattle.alto_maps.specs.MergeForm.{merge_form}
 use Rattle.alto_maps.specs.OperationForm.{under, on_touched, on_meta, operation_form}
 use Rattle.alto_maps.specs.declared.place.Place.{Place}
 
@@ -34,16 +35,20 @@ pub merge_parts : (shape : Shape) (after : Face) (places : List Place)
 unfolding merge_form
 merge_parts shape after places =
     ap
-    (λ changes. object (with_members (with_members no_members (part (codes "meta") (meta_change shape after places))) (part shape.section (section_change changes))))
+    (λ changes. object (with_members (with_members no_members (part (codes "meta") (meta_change shape after places)))
+    (part shape.section (section_change changes))))
     (over_touched (λ t. (t.0, change_of after t.0 t.1)) (λ g. touched_members g places) (touched_groups places))
     ∙ ap object
     (sym
-    (fold-append (λ (before : Members) (m : Name × Data). with_member m.0 m.1 before) no_members (part (codes "meta") (meta_change shape after places))
+    (fold-append (λ (before : Members) (m : Name × Data). with_member m.0 m.1 before)
+    no_members (part (codes "meta") (meta_change shape after places))
     (part shape.section (section_change (map (λ g. (g, group_change after places g)) (touched_groups places))))))
 
 -- and so are operations, group by group: these are all that a loop over the touched groups has put
-pub operation_parts : (shape : Shape) (before after : Face) (places : List Place) (operations : List Operation) (n : ℕ) (groups : List Touched)
-    → operations ≡ on_meta shape after places ++ map (under shape.section) (flat_map (λ t. on_touched before after t.0 t.1) (take n groups))
+pub operation_parts : (shape : Shape) (before after : Face) (places : List Place) (operations : List Operation) (n : ℕ)
+    (groups : List Touched)
+    → operations ≡ on_meta shape after places ++ map (under shape.section)
+    (flat_map (λ t. on_touched before after t.0 t.1) (take n groups))
     → length groups ≤ n → groups ≡ touched_parts places
     → operations ≡ operation_form shape before after places
 unfolding operation_form

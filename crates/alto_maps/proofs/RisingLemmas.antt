@@ -25,17 +25,23 @@ names_of-listed : (value : Name → Data) (names : List Name) → names_of (list
 names_of-listed value [] = refl
 names_of-listed value (name ∷ names) = ap (λ ns. name ∷ ns) (names_of-listed value names)
 
-found-listed : (value : Name → Data) (names : List Name) (q : Name) → get_member q (listed value names) ≡ cond (list_any (same_name q) names) (Some (value q)) None
+found-listed : (value : Name → Data) (names : List Name) (q : Name)
+    → get_member q (listed value names) ≡ cond (list_any (same_name q) names) (Some (value q)) None
 found-listed value [] q = refl
-found-listed value (name ∷ names) q = by (slice_cmp nat_cmp q name) refl (sym (is_eq-slice_cmp q name)) (found-listed value names q)
+found-listed value (name ∷ names) q =
+    by (slice_cmp nat_cmp q name) refl (sym (is_eq-slice_cmp q name)) (found-listed value names q)
   where
-    by : (o : Ordering) → slice_cmp nat_cmp q name ≡ o → same_name q name ≡ is_eq (slice_cmp nat_cmp q name) → get_member q (listed value names) ≡ cond (list_any (same_name q) names) (Some (value q)) None
-        → get_member q (listed value (name ∷ names)) ≡ cond (same_name q name || list_any (same_name q) names) (Some (value q)) None
+    by : (o : Ordering) → slice_cmp nat_cmp q name ≡ o → same_name q name ≡ is_eq (slice_cmp nat_cmp q name)
+        → get_member q (listed value names) ≡ cond (list_any (same_name q) names) (Some (value q)) None
+        → get_member q (listed value (name ∷ names)) ≡ cond (same_name q name || list_any (same_name q) names)
+        (Some (value q)) None
     by Less is same rest = rw (same, is) rest
     by Equal is same rest = rw (same, is) (ap (λ n. Some (value n)) (sym (one_name q name is)))
     by Greater is same rest = rw (same, is) rest
 
 -- an object made of names that rise has its members as they stand
-pub named-rising : (value : Name → Data) (names : List Name) → Rise names → named value names ≡ members_in_order (map (λ name. (name, value name)) names)
+pub named-rising : (value : Name → Data) (names : List Name) → Rise names
+    → named value names ≡ members_in_order (map (λ name. (name, value name)) names)
 named-rising value names rise =
-    same_members _ _ (in_order-named value names) (subst Rise (sym (names_of-listed value names)) rise) (λ q. found-named value names q ∙ sym (found-listed value names q))
+    same_members _ _ (in_order-named value names) (subst Rise (sym (names_of-listed value names)) rise)
+    (λ q. found-named value names q ∙ sym (found-listed value names q))

@@ -41,22 +41,27 @@ with_name set name = insert_key (slice_cmp nat_cmp) set name
 or_swap : (a b c : Bool) → (a || (b || c)) ≡ (b || (a || c))
 or_swap a b c = sym (or_assoc a b c) ∙ (ap (λ x. x || c) (or_comm a b) ∙ or_assoc b a c)
 
-any-with_name : (q k : Name) (set : List Name) → list_any (same_name q) (with_name set k) ≡ (same_name q k || list_any (same_name q) set)
+any-with_name : (q k : Name) (set : List Name)
+    → list_any (same_name q) (with_name set k) ≡ (same_name q k || list_any (same_name q) set)
 any-with_name q k [] = refl
 any-with_name q k (x ∷ xs) = by (slice_cmp nat_cmp k x) refl (any-with_name q k xs)
   where
-    by : (o : Ordering) → slice_cmp nat_cmp k x ≡ o → list_any (same_name q) (with_name xs k) ≡ (same_name q k || list_any (same_name q) xs)
-        → list_any (same_name q) (match_ordering o (k ∷ x ∷ xs) (x ∷ xs) (x ∷ with_name xs k)) ≡ (same_name q k || (same_name q x || list_any (same_name q) xs))
+    by : (o : Ordering) → slice_cmp nat_cmp k x ≡ o
+        → list_any (same_name q) (with_name xs k) ≡ (same_name q k || list_any (same_name q) xs)
+        → list_any (same_name q) (match_ordering o (k ∷ x ∷ xs) (x ∷ xs) (x ∷ with_name xs k))
+        ≡ (same_name q k || (same_name q x || list_any (same_name q) xs))
     by Less is rest = refl
     by Equal is rest = rw (one_name k x is) (sym (or_self_left (same_name q x) (list_any (same_name q) xs)))
     by Greater is rest = rw rest (or_swap (same_name q x) (same_name q k) (list_any (same_name q) xs))
 
-any-fold : (q : Name) (set names : List Name) → list_any (same_name q) (fold with_name set names) ≡ (list_any (same_name q) names || list_any (same_name q) set)
+any-fold : (q : Name) (set names : List Name)
+    → list_any (same_name q) (fold with_name set names) ≡ (list_any (same_name q) names || list_any (same_name q) set)
 any-fold q set [] = refl
 any-fold q set (x ∷ xs) =
     any-fold q (with_name set x) xs
     ∙ rw (any-with_name q x set)
-    (or_swap (list_any (same_name q) xs) (same_name q x) (list_any (same_name q) set) ∙ sym (or_assoc (same_name q x) (list_any (same_name q) xs) (list_any (same_name q) set)))
+    (or_swap (list_any (same_name q) xs) (same_name q x) (list_any (same_name q) set)
+    ∙ sym (or_assoc (same_name q x) (list_any (same_name q) xs) (list_any (same_name q) set)))
 
 -- a set has the names that the list has
 pub any-set_of : (q : Name) (names : List Name) → list_any (same_name q) (set_of names) ≡ list_any (same_name q) names
@@ -85,11 +90,13 @@ none_above m n (x ∷ xs) h is =
     let apart : same_name m x ≡ false = ap (λ y. same_name y x) is ∙ (sym (is_eq-slice_cmp n x) ∙ ap is_eq h.0) in
     rw apart (none_above m n xs h.1 is)
 
-above-with_name : (j k : Name) (set : List Name) → slice_cmp nat_cmp j k ≡ Less → AreAbove j set → AreAbove j (with_name set k)
+above-with_name : (j k : Name) (set : List Name) → slice_cmp nat_cmp j k ≡ Less → AreAbove j set
+    → AreAbove j (with_name set k)
 above-with_name j k [] less h = (less, tt)
 above-with_name j k (x ∷ xs) less h = by (slice_cmp nat_cmp k x) (above-with_name j k xs less h.1)
   where
-    by : (o : Ordering) → AreAbove j (with_name xs k) → AreAbove j (match_ordering o (k ∷ x ∷ xs) (x ∷ xs) (x ∷ with_name xs k))
+    by : (o : Ordering) → AreAbove j (with_name xs k)
+        → AreAbove j (match_ordering o (k ∷ x ∷ xs) (x ∷ xs) (x ∷ with_name xs k))
     by Less rest = (less, h)
     by Equal rest = h
     by Greater rest = (h.0, rest)
@@ -103,7 +110,8 @@ unfolding IsStrictlySortedBy
 rise-with_name k [] h = (tt, tt)
 rise-with_name k (x ∷ xs) h = by (slice_cmp nat_cmp k x) k x xs refl h (rise-with_name k xs h.1)
   where
-    by : (o : Ordering) (k x : Name) (xs : List Name) → slice_cmp nat_cmp k x ≡ o → Rise (x ∷ xs) → Rise (with_name xs k)
+    by : (o : Ordering) (k x : Name) (xs : List Name) → slice_cmp nat_cmp k x ≡ o → Rise (x ∷ xs)
+        → Rise (with_name xs k)
         → Rise (match_ordering o (k ∷ x ∷ xs) (x ∷ xs) (x ∷ with_name xs k))
     by Less k x xs is h rest = ((is, above_lesser k x xs is h.0), h)
     by Equal k x xs is h rest = h

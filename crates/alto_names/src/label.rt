@@ -79,7 +79,8 @@ impl<K: Kind> Model for Label<K> {
 
     ghost view = { λ label. arc_str_bytes label.text };
 
-    ghost invariant = { λ label. named K.alphabet K.LONGEST (arc_str_bytes label.text) ≡ Ok (arc_str_bytes label.text) };
+    ghost invariant = { λ label.
+        named K.alphabet K.LONGEST (arc_str_bytes label.text) ≡ Ok (arc_str_bytes label.text) };
 }
 
 impl<K: Kind> Label<K> {

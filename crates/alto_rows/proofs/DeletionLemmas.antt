@@ -26,7 +26,8 @@ gone_stays : (rows : Rows) (at : Key) → value_after None (map deletion rows) a
 gone_stays [] at = refl
 gone_stays (row ∷ rows) at = by (gone_stays rows at) (is_eq (key_cmp at row.0))
   where
-    by : value_after None (map deletion rows) at ≡ None → (b : Bool) → value_after (cond b None None) (map deletion rows) at ≡ None
+    by : value_after None (map deletion rows) at ≡ None → (b : Bool)
+        → value_after (cond b None None) (map deletion rows) at ≡ None
     by more true = more
     by more false = more
 
@@ -37,7 +38,8 @@ value_after-deletions [] old at = refl
 value_after-deletions (row ∷ rows) old at = by (value_after-deletions rows old at) (is_eq (key_cmp at row.0))
   where
     by : value_after old (map deletion rows) at ≡ cond (is_written_at at (map deletion rows)) None old
-        → (b : Bool) → value_after (cond b None old) (map deletion rows) at ≡ cond (b || is_written_at at (map deletion rows)) None old
+        → (b : Bool) → value_after (cond b None old) (map deletion rows) at
+        ≡ cond (b || is_written_at at (map deletion rows)) None old
     by more true = gone_stays rows at
     by more false = more
 
@@ -68,7 +70,8 @@ written_where goes (row ∷ rows) at s =
     by below false false e f = rw (value_of-other at row rows f, e) below
 
 -- a value of a row that passes is gone
-gone_or_left : (goes : Key × Value → Bool) (at : Key) (old : Option Value) → cond (passes goes at old) None old ≡ left_of goes at old
+gone_or_left : (goes : Key × Value → Bool) (at : Key) (old : Option Value)
+    → cond (passes goes at old) None old ≡ left_of goes at old
 gone_or_left goes at None = refl
 gone_or_left goes at (Some v) = refl
 
@@ -86,24 +89,29 @@ pub value_of-deletion : (rows : Rows) (gone at : Key) → AreSorted rows
     → value_of (with_value rows gone None) at ≡ left_of (λ row. is_eq (key_cmp row.0 gone)) at (value_of rows at)
 value_of-deletion rows gone at s = value_of-delete rows gone at s ∙ by (value_of rows at) (is_eq (key_cmp at gone)) refl
   where
-    by : (old : Option Value) (b : Bool) → is_eq (key_cmp at gone) ≡ b → cond b None old ≡ left_of (λ row. is_eq (key_cmp row.0 gone)) at old
+    by : (old : Option Value) (b : Bool) → is_eq (key_cmp at gone) ≡ b
+        → cond b None old ≡ left_of (λ row. is_eq (key_cmp row.0 gone)) at old
     by None true e = refl
     by None false e = refl
     by (Some v) b e = rw e refl
 
 -- each row of sorted rows is the value at its key
-pub each_row : (rest rows : Rows) → AreSorted rest → ((at : Key) (v : Value) → value_of rest at ≡ Some v → value_of rows at ≡ Some v)
+pub each_row : (rest rows : Rows) → AreSorted rest
+    → ((at : Key) (v : Value) → value_of rest at ≡ Some v → value_of rows at ≡ Some v)
     → AllByRecursion (λ row. value_of rows row.0 ≡ Some row.1) rest
 each_row [] rows s same = tt
-each_row (row ∷ rest) rows s same =
-    (same row.0 row.1 (value_of-first row.0 row rest (key_cmp_itself row.0)), each_row rest rows (sorted_rest row rest s) (λ at v h. same at v (later at v h)))
+each_row (row ∷ rest) rows s same = (
+  same row.0 row.1 (value_of-first row.0 row rest (key_cmp_itself row.0)),
+  each_row rest rows (sorted_rest row rest s) (λ at v h. same at v (later at v h)),
+)
   where
     later : (at : Key) (v : Value) → value_of rest at ≡ Some v → value_of (row ∷ rest) at ≡ Some v
     later at v h = by (is_eq (key_cmp at row.0)) refl
       where
         by : (b : Bool) → is_eq (key_cmp at row.0) ≡ b → value_of (row ∷ rest) at ≡ Some v
         by true e =
-            let none : value_of rest at ≡ None = rw (one_key at row.0 e) (value_of-past row.0 rest (past_first row rest s)) in
+            let none : value_of rest at ≡ None =
+            rw (one_key at row.0 e) (value_of-past row.0 rest (past_first row rest s)) in
             let both : Some v ≡ None = sym h ∙ none in
             cc
         by false e = value_of-other at row rest e ∙ h

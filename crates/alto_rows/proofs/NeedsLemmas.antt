@@ -29,7 +29,8 @@ pub of_among : (P : Key → Type 0) (at : Key) (keys : List Key) → AllByRecurs
 of_among P at [] all h = cc
 of_among P at (first ∷ keys) all h = by (λ g. of_among P at keys all.1 g) (is_eq (key_cmp at first)) refl h
   where
-    by : (is_among at keys ≡ true → P at) → (b : Bool) → is_eq (key_cmp at first) ≡ b → (b || is_among at keys) ≡ true → P at
+    by : (is_among at keys ≡ true → P at) → (b : Bool) → is_eq (key_cmp at first) ≡ b
+        → (b || is_among at keys) ≡ true → P at
     by more true e g = rw (one_key at first e) all.0
     by more false e g = more g
 
@@ -40,7 +41,8 @@ among_first at keys = rw (key_cmp_itself at) refl
 -- ---- what rows need is of the kinds that declare
 
 -- the abstract network elements of a path
-anes_declare : (net : List ℕ) (anes : List (List ℕ)) → AllByRecursion (λ need. declares need ≡ true) (map (key.Ane net) anes)
+anes_declare : (net : List ℕ) (anes : List (List ℕ))
+    → AllByRecursion (λ need. declares need ≡ true) (map (key.Ane net) anes)
 anes_declare net [] = tt
 anes_declare net (ane ∷ anes) = (refl, anes_declare net anes)
 
@@ -73,7 +75,8 @@ net_brings : (keys : List Key) (net : List ℕ) → BringsNoMore keys (key.Net n
 net_brings keys net w other h = cc
 
 -- a row that needs its network alone brings no more to keys that begin with the network
-only_net : (net : List ℕ) (keys : List Key) (other : Key) → is_among other (key.Net net ∷ []) ≡ true → is_among other (key.Net net ∷ keys) ≡ true
+only_net : (net : List ℕ) (keys : List Key) (other : Key) → is_among other (key.Net net ∷ []) ≡ true
+    → is_among other (key.Net net ∷ keys) ≡ true
 only_net net keys other h = by (is_eq (key_cmp other (key.Net net))) h
   where
     by : (b : Bool) → (b || false) ≡ true → (b || is_among other keys) ≡ true
@@ -81,9 +84,11 @@ only_net net keys other h = by (is_eq (key_cmp other (key.Net net))) h
     by false h = cc
 
 -- keys bring no more to a network and them, where the rows of each need at most the network
-all_bring : (net : List ℕ) (keys : List Key) → AllByRecursion (BringsNoMore (key.Net net ∷ [])) keys → (all : List Key) → AllByRecursion (BringsNoMore (key.Net net ∷ all)) keys
+all_bring : (net : List ℕ) (keys : List Key) → AllByRecursion (BringsNoMore (key.Net net ∷ [])) keys → (all : List Key)
+    → AllByRecursion (BringsNoMore (key.Net net ∷ all)) keys
 all_bring net [] bring all = tt
-all_bring net (first ∷ keys) bring all = (λ w other h. only_net net all other (bring.0 w other h), all_bring net keys bring.1 all)
+all_bring net (first ∷ keys) bring all =
+    (λ w other h. only_net net all other (bring.0 w other h), all_bring net keys bring.1 all)
 
 -- the rows of a PID, of a metric and of an abstract network element need their network alone
 pid_brings : (net pid : List ℕ) → BringsNoMore (key.Net net ∷ []) (key.Pid net pid)
@@ -95,12 +100,14 @@ metric_brings net metric w other h = h
 ane_brings : (net ane : List ℕ) → BringsNoMore (key.Net net ∷ []) (key.Ane net ane)
 ane_brings net ane w other h = h
 
-anes_bring : (net : List ℕ) (anes : List (List ℕ)) → AllByRecursion (BringsNoMore (key.Net net ∷ [])) (map (key.Ane net) anes)
+anes_bring : (net : List ℕ) (anes : List (List ℕ))
+    → AllByRecursion (BringsNoMore (key.Net net ∷ [])) (map (key.Ane net) anes)
 anes_bring net [] = tt
 anes_bring net (ane ∷ anes) = (ane_brings net ane, anes_bring net anes)
 
 -- a network and such keys
-net_and : (net : List ℕ) (keys : List Key) → AllByRecursion (BringsNoMore (key.Net net ∷ [])) keys → AllByRecursion (BringsNoMore (key.Net net ∷ keys)) (key.Net net ∷ keys)
+net_and : (net : List ℕ) (keys : List Key) → AllByRecursion (BringsNoMore (key.Net net ∷ [])) keys
+    → AllByRecursion (BringsNoMore (key.Net net ∷ keys)) (key.Net net ∷ keys)
 net_and net keys bring = (net_brings (key.Net net ∷ keys) net, all_bring net keys bring keys)
 
 -- what a row needs brings no more
@@ -125,6 +132,8 @@ needs_bring (key.Path net source destination) v =
 needs_bring _ v = tt
 
 -- what is needed by a row that another row needs, that other row needs too
-pub needs_transitive : (other need at : Key) (v w : Value) → is_among need (needs at v) ≡ true → is_among other (needs need w) ≡ true
+pub needs_transitive : (other need at : Key) (v w : Value) → is_among need (needs at v) ≡ true
+    → is_among other (needs need w) ≡ true
     → is_among other (needs at v) ≡ true
-needs_transitive other need at v w h g = of_among (BringsNoMore (needs at v)) need (needs at v) (needs_bring at v) h w other g
+needs_transitive other need at v w h g =
+    of_among (BringsNoMore (needs at v)) need (needs at v) (needs_bring at v) h w other g

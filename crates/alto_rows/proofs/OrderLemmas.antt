@@ -55,16 +55,19 @@ derived_key_cmp _ _ = refl
 -- the order of resources is total
 pub resource_cmp_total : IsTotalOrder resource_cmp
 resource_cmp_total =
-    subst (λ (R : Resource → Resource → Ordering). IsTotalOrder R) (fun_ext (λ a. fun_ext (λ b. derived_resource_cmp a b))) resource_order.Laws.total-law
+    subst (λ (R : Resource → Resource → Ordering). IsTotalOrder R)
+    (fun_ext (λ a. fun_ext (λ b. derived_resource_cmp a b))) resource_order.Laws.total-law
 
 -- the order of entities is total
 pub entity_cmp_total : IsTotalOrder entity_cmp
 entity_cmp_total =
-    subst (λ (R : Entity → Entity → Ordering). IsTotalOrder R) (fun_ext (λ a. fun_ext (λ b. derived_entity_cmp a b))) entity_order.Laws.total-law
+    subst (λ (R : Entity → Entity → Ordering). IsTotalOrder R) (fun_ext (λ a. fun_ext (λ b. derived_entity_cmp a b)))
+    entity_order.Laws.total-law
 
 -- the order of keys is total
 pub key_cmp_total : IsTotalOrder key_cmp
-key_cmp_total = subst (λ (R : Key → Key → Ordering). IsTotalOrder R) (fun_ext (λ a. fun_ext (λ b. derived_key_cmp a b))) key_order.Laws.total-law
+key_cmp_total = subst (λ (R : Key → Key → Ordering). IsTotalOrder R) (fun_ext (λ a. fun_ext (λ b. derived_key_cmp a b)))
+    key_order.Laws.total-law
 
 -- both of two comparisons tie where one after the other does
 both_tie : (o p : Ordering) → ordering_then o p ≡ Equal → (o ≡ Equal) × (p ≡ Equal)
@@ -99,7 +102,8 @@ prefix_cmp_exact a b h =
     let addrs : a.addr ≡ b.addr = addr_cmp_exact a.addr b.addr ties.0 in
     let lens : a.len ≡ b.len = exact_unsigned a.len b.len ties.1 in
     let same_len : (is : IsPrefix a.addr b.len) → a ≡ made a.addr b.len is =
-    subst (λ len. (is : IsPrefix a.addr len) → a ≡ made a.addr len is) lens (λ is i. made a.addr a.len (one_proof a.addr a.len a.is_prefix is i)) in
+    subst (λ len. (is : IsPrefix a.addr len)
+    → a ≡ made a.addr len is) lens (λ is i. made a.addr a.len (one_proof a.addr a.len a.is_prefix is i)) in
     subst (λ addr. (is : IsPrefix addr b.len) → a ≡ made addr b.len is) addrs same_len b.is_prefix
 
 -- resources that tie are one
@@ -145,7 +149,8 @@ key_cmp_exact (key.Metric a m) (key.Metric b n) h =
     let metrics : m ≡ n = name_cmp_exact m n ties.1 in
     cc
 key_cmp_exact (key.Cost a m s d) (key.Cost b n t e) h =
-    let ties : (name_cmp a b ≡ Equal) × (ordering_then (name_cmp m n) (ordering_then (name_cmp s t) (name_cmp d e)) ≡ Equal) = both_tie _ _ h in
+    let ties : (name_cmp a b ≡ Equal) × (ordering_then (name_cmp m n) (ordering_then (name_cmp s t) (name_cmp d e))
+    ≡ Equal) = both_tie _ _ h in
     let more : (name_cmp m n ≡ Equal) × (ordering_then (name_cmp s t) (name_cmp d e) ≡ Equal) = both_tie _ _ ties.1 in
     let last : (name_cmp s t ≡ Equal) × (name_cmp d e ≡ Equal) = both_tie _ _ more.1 in
     let nets : a ≡ b = name_cmp_exact a b ties.0 in

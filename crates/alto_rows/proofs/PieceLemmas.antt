@@ -1,5 +1,7 @@
 -- Texts that begin with bytes of names of networks, and what reading a name tells.
-use Rattle.std.proofs.Common.{◌≡◌, ℕ, suc, ◌+◌, Bool, true, false, cond, not, List, [], ◌∷◌, ◌++◌, length, take, drop, get_or, Ok, Err, Option, Some, None, refl, sym, ap, ◌∙◌, subst, arith, append-nil, length-append}
+use Rattle.std.proofs.Common.{◌≡◌, ℕ, suc, ◌+◌, Bool, true, false, cond, not, List, [], ◌∷◌, ◌++◌, length, take, drop}
+use Rattle.std.proofs.Common.{get_or, Ok, Err, Option, Some, None, refl, sym, ap, ◌∙◌, subst, arith, append-nil}
+use Rattle.std.proofs.Common.{length-append}
 use Rattle.std.specs.Prelude.{MatchOption}
 use Rattle.std.specs.List.{position_from}
 use Rattle.std.proofs.Math.Seq.{take-append_seam, drop-append_seam}
@@ -8,18 +10,21 @@ use Rattle.alto_names.specs.declared.label.NameFault.{NameFault}
 use Rattle.alto_rows.specs.Pieces.{AreNetBytes, EndsNet, IsNetEnd}
 
 -- where a text reads as a name, the name is the text, and no byte of it is bad
-both_named : (long : Bool) (fault : NameFault) (text name : List ℕ) (found : Option ℕ) → cond long (Err fault) (unless_bad text found) ≡ Ok name
+both_named : (long : Bool) (fault : NameFault) (text name : List ℕ) (found : Option ℕ)
+    → cond long (Err fault) (unless_bad text found) ≡ Ok name
     → (name ≡ text) × (found ≡ None)
 both_named true fault text name found h = cc
 both_named false fault text name None h = (cc, refl)
 both_named false fault text name (Some place) h = cc
 
 -- a name is the text that it was read from
-pub named_is : (alphabet : ℕ → Bool) (longest : ℕ) (text name : List ℕ) → named alphabet longest text ≡ Ok name → name ≡ text
+pub named_is : (alphabet : ℕ → Bool) (longest : ℕ) (text name : List ℕ)
+    → named alphabet longest text ≡ Ok name → name ≡ text
 named_is alphabet longest [] name h = cc
 named_is alphabet longest (byte ∷ rest) name h = (both_named _ _ (byte ∷ rest) name _ h).0
 
-none_bad : (alphabet : ℕ → Bool) (longest : ℕ) (text name : List ℕ) → named alphabet longest text ≡ Ok name → first_bad alphabet text ≡ None
+none_bad : (alphabet : ℕ → Bool) (longest : ℕ) (text name : List ℕ) → named alphabet longest text ≡ Ok name
+    → first_bad alphabet text ≡ None
 none_bad alphabet longest [] name h = refl
 none_bad alphabet longest (byte ∷ rest) name h = (both_named _ _ (byte ∷ rest) name _ h).1
 
@@ -57,7 +62,8 @@ cut_from i (byte ∷ rest) = by (cut_from (i + 1) rest) (is_net_byte byte) refl
         record { head = []; tail = byte ∷ rest; whole = refl; net = tt; ends = e; place = rw e (ap (λ n. Some n) size) }
 
 -- the place of the first byte that isn't in the alphabet of networks ends the name
-net_end_at : (text head tail : List ℕ) → text ≡ head ++ tail → AreNetBytes head → EndsNet tail → IsNetEnd text (length head)
+net_end_at : (text head tail : List ℕ) → text ≡ head ++ tail → AreNetBytes head → EndsNet tail
+    → IsNetEnd text (length head)
 net_end_at text head tail whole net ends = record {
   within = omega (arith, ap length whole, length-append head tail);
   net = subst AreNetBytes (sym (ap (take (length head)) whole ∙ take-append_seam head tail)) net;
@@ -65,14 +71,16 @@ net_end_at text head tail whole net ends = record {
 }
 
 net_end : (found : Option ℕ) (text head tail : List ℕ) → text ≡ head ++ tail → AreNetBytes head → EndsNet tail
-    → found ≡ place_behind (0 + length head) tail → MatchOption found (IsNetEnd text (length text)) (λ n. IsNetEnd text n)
+    → found ≡ place_behind (0 + length head) tail
+    → MatchOption found (IsNetEnd text (length text)) (λ n. IsNetEnd text n)
 net_end None text head [] whole net ends e =
     subst (λ n. IsNetEnd text n) (sym (ap length (whole ∙ append-nil head))) (net_end_at text head [] whole net ends)
 net_end None text head (byte ∷ tail) whole net ends e = cc
 net_end (Some n) text head [] whole net ends e = cc
 net_end (Some n) text head (byte ∷ tail) whole net ends e =
     let size : n ≡ 0 + length head = cc in
-    subst (λ n. IsNetEnd text n) (let s : length head ≡ n = omega arith in s) (net_end_at text head (byte ∷ tail) whole net ends)
+    subst (λ n. IsNetEnd text n) (let s : length head ≡ n = omega arith in
+    s) (net_end_at text head (byte ∷ tail) whole net ends)
 
 -- the first byte that isn't in the alphabet of networks ends the name, or the text does
 pub net_ends : (found : Option ℕ) (text : List ℕ) → found ≡ first_bad is_net_byte text
@@ -88,12 +96,14 @@ net_bytes net h = by (cut_from 0 net)
     by : IsCut 0 net → AreNetBytes net
     by cut = whole cut.tail (cut.whole) (sym (none_bad is_net_byte 24 net net h) ∙ cut.place)
       where
-        whole : (tail : List ℕ) → net ≡ cut.head ++ tail → None ≡ place_behind (0 + length cut.head) tail → AreNetBytes net
+        whole : (tail : List ℕ) → net ≡ cut.head ++ tail → None ≡ place_behind (0 + length cut.head) tail
+            → AreNetBytes net
         whole [] e k = subst AreNetBytes (sym (e ∙ append-nil cut.head)) cut.net
         whole (byte ∷ tail) e k = cc
 
 -- where two texts of such bytes and what is behind them are alike, each is the other
-pub apart : (one other back later : List ℕ) → AreNetBytes one → AreNetBytes other → EndsNet back → EndsNet later → one ++ back ≡ other ++ later
+pub apart : (one other back later : List ℕ) → AreNetBytes one → AreNetBytes other → EndsNet back → EndsNet later
+    → one ++ back ≡ other ++ later
     → (one ≡ other) × (back ≡ later)
 apart [] [] back later h k p q e = (refl, e)
 apart [] (b ∷ other) [] later h k p q e = cc

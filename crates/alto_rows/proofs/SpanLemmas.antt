@@ -1,4 +1,5 @@
--- Spans are intervals of the order of keys: along rising keys a span stands first behind them, then round them, then before them.
+-- Spans are intervals of the order of keys: along rising keys a span stands first behind them, then round them, then
+-- before them.
 use Rattle.std.proofs.Common.{◌≡◌, ℕ, refl}
 use Rattle.std.proofs.lemmas.Cmp.{nat_cmp_total}
 use Rattle.std.proofs.lemmas.Map.Lookups.{CmpEqualImpliesEq, exact_unsigned}
@@ -27,19 +28,30 @@ unfolding span_cmp
 in_span span.Nets (key.Net of) = refl
 in_span (span.Pids net) (key.Pid of pid) = same_name_ties net of
 in_span (span.Prefixes net) (key.Prefix of pid prefix) = same_name_ties net of
-in_span (span.PrefixesOf net pid) (key.Prefix of owner prefix) = rw (both_ties (name_cmp net of) (name_cmp pid owner), same_name_ties net of, same_name_ties pid owner) refl
+in_span (span.PrefixesOf net pid) (key.Prefix of owner prefix) =
+    rw (both_ties (name_cmp net of) (name_cmp pid owner), same_name_ties net of, same_name_ties pid owner) refl
 in_span (span.Metrics net) (key.Metric of metric) = same_name_ties net of
 in_span (span.Costs net) (key.Cost of metric source destination) = same_name_ties net of
-in_span (span.CostsIn net metric) (key.Cost of other source destination) = rw (both_ties (name_cmp net of) (name_cmp metric other), same_name_ties net of, same_name_ties metric other) refl
+in_span (span.CostsIn net metric) (key.Cost of other source destination) =
+    rw (both_ties (name_cmp net of) (name_cmp metric other), same_name_ties net of, same_name_ties metric other) refl
 in_span (span.CostsFrom net metric source) (key.Cost of other from destination) =
-    rw (both_ties (name_cmp net of) (ordering_then (name_cmp metric other) (name_cmp source from)), both_ties (name_cmp metric other) (name_cmp source from), same_name_ties net of, same_name_ties metric other, same_name_ties source from) refl
+    rw (
+      both_ties (name_cmp net of) (ordering_then (name_cmp metric other) (name_cmp source from)),
+      both_ties (name_cmp metric other) (name_cmp source from),
+      same_name_ties net of,
+      same_name_ties metric other,
+      same_name_ties source from,
+    ) refl
 in_span (span.Props net) (key.Prop of entity name) = same_name_ties net of
-in_span (span.PropsOf net entity) (key.Prop of other name) = rw (both_ties (name_cmp net of) (entity_cmp entity other), same_name_ties net of) refl
+in_span (span.PropsOf net entity) (key.Prop of other name) =
+    rw (both_ties (name_cmp net of) (entity_cmp entity other), same_name_ties net of) refl
 in_span (span.Anes net) (key.Ane of ane) = same_name_ties net of
 in_span (span.AneProps net) (key.AneProp of ane name) = same_name_ties net of
-in_span (span.AnePropsOf net ane) (key.AneProp of other name) = rw (both_ties (name_cmp net of) (name_cmp ane other), same_name_ties net of, same_name_ties ane other) refl
+in_span (span.AnePropsOf net ane) (key.AneProp of other name) =
+    rw (both_ties (name_cmp net of) (name_cmp ane other), same_name_ties net of, same_name_ties ane other) refl
 in_span (span.Paths net) (key.Path of source destination) = same_name_ties net of
-in_span (span.PathsFrom net source) (key.Path of from destination) = rw (both_ties (name_cmp net of) (name_cmp source from), same_name_ties net of, same_name_ties source from) refl
+in_span (span.PathsFrom net source) (key.Path of from destination) =
+    rw (both_ties (name_cmp net of) (name_cmp source from), same_name_ties net of, same_name_ties source from) refl
 in_span _ _ = refl
 
 -- ---- along rising keys the comparison falls
@@ -54,7 +66,8 @@ falls_stays : (o : Ordering) → Falls o o
 falls_stays o = record { less = λ e. e; greater = λ e. e }
 
 -- it falls by a first field, where it falls by what follows in keys that share that field
-falls_by : {A : Type 0} (c : A → A → Ordering) → IsTotalOrder c → CmpEqualImpliesEq c → (x y z : A) (rest earlier later : Ordering)
+falls_by : {A : Type 0} (c : A → A → Ordering) → IsTotalOrder c → CmpEqualImpliesEq c
+    → (x y z : A) (rest earlier later : Ordering)
     → ordering_then (c y z) rest ≡ Less → (rest ≡ Less → Falls earlier later)
     → Falls (ordering_then (c x y) earlier) (ordering_then (c x z) later)
 falls_by c total exact x y z rest earlier later less inner = by (c y z) (c x y) refl refl
@@ -85,18 +98,22 @@ then_equal Equal = refl
 then_equal Greater = refl
 
 -- by names, and then by what follows
-falls_by_name : (x y z : List ℕ) (rest earlier later : Ordering) → ordering_then (name_cmp y z) rest ≡ Less → (rest ≡ Less → Falls earlier later)
+falls_by_name : (x y z : List ℕ) (rest earlier later : Ordering) → ordering_then (name_cmp y z) rest ≡ Less
+    → (rest ≡ Less → Falls earlier later)
     → Falls (ordering_then (name_cmp x y) earlier) (ordering_then (name_cmp x z) later)
 falls_by_name = falls_by name_cmp nat_list_cmp_total name_cmp_exact
 
 -- by names alone
-falls_at_name : (x y z : List ℕ) (rest : Ordering) → ordering_then (name_cmp y z) rest ≡ Less → Falls (name_cmp x y) (name_cmp x z)
+falls_at_name : (x y z : List ℕ) (rest : Ordering) → ordering_then (name_cmp y z) rest ≡ Less
+    → Falls (name_cmp x y) (name_cmp x z)
 falls_at_name x y z rest less =
-    let both : Falls (ordering_then (name_cmp x y) Equal) (ordering_then (name_cmp x z) Equal) = falls_by_name x y z rest Equal Equal less (λ _. falls_stays Equal) in
+    let both : Falls (ordering_then (name_cmp x y) Equal) (ordering_then (name_cmp x z) Equal) =
+    falls_by_name x y z rest Equal Equal less (λ _. falls_stays Equal) in
     rw (then_equal (name_cmp x y), then_equal (name_cmp x z)) at both
 
 -- by entities alone
-falls_at_entity : (x y z : Entity) (rest : Ordering) → ordering_then (entity_cmp y z) rest ≡ Less → Falls (entity_cmp x y) (entity_cmp x z)
+falls_at_entity : (x y z : Entity) (rest : Ordering) → ordering_then (entity_cmp y z) rest ≡ Less
+    → Falls (entity_cmp x y) (entity_cmp x z)
 falls_at_entity x y z rest less =
     let both : Falls (ordering_then (entity_cmp x y) Equal) (ordering_then (entity_cmp x z) Equal) =
     falls_by entity_cmp entity_cmp_total entity_cmp_exact x y z rest Equal Equal less (λ _. falls_stays Equal) in
@@ -130,7 +147,9 @@ fields_fall (key.Cost a m c d) (key.Cost b n t e) less = by
     by : (s : Span) → Falls (span_fields_cmp s (key.Cost a m c d)) (span_fields_cmp s (key.Cost b n t e))
     by (span.Costs net) = falls_at_name net a b _ less
     by (span.CostsIn net metric) = falls_by_name net a b _ _ _ less (falls_at_name metric m n _)
-    by (span.CostsFrom net metric source) = falls_by_name net a b _ _ _ less (λ more. falls_by_name metric m n _ _ _ more (falls_at_name source c t (name_cmp d e)))
+    by (span.CostsFrom net metric source) =
+        falls_by_name net a b _ _ _ less
+        (λ more. falls_by_name metric m n _ _ _ more (falls_at_name source c t (name_cmp d e)))
     by _ = falls_stays Equal
 fields_fall (key.Prop a x p) (key.Prop b y q) less = by
   where
@@ -166,4 +185,5 @@ fields_fall _ _ less = λ s. cc
 pub span_falls : (s : Span) (a b : Key) → key_cmp a b ≡ Less → Falls (span_cmp s a) (span_cmp s b)
 unfolding span_cmp key_cmp
 span_falls s a b less =
-    falls_by nat_cmp nat_cmp_total exact_unsigned (span_kind s) (kind_of a) (kind_of b) (fields_cmp a b) (span_fields_cmp s a) (span_fields_cmp s b) less (λ fields. fields_fall a b fields s)
+    falls_by nat_cmp nat_cmp_total exact_unsigned (span_kind s) (kind_of a) (kind_of b) (fields_cmp a b)
+    (span_fields_cmp s a) (span_fields_cmp s b) less (λ fields. fields_fall a b fields s)

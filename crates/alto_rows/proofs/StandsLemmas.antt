@@ -18,7 +18,8 @@ abbrev pub stands : Resource → List Resource → Bool
 stands of ofs = list_any (is_at (resource_cmp of)) ofs
 
 -- a resource is among those of a list that pass a test where it is in the list and passes
-pub stands-filter : (test : Resource → Bool) (of : Resource) (ofs : List Resource) → stands of (filter test ofs) ≡ (test of && stands of ofs)
+pub stands-filter : (test : Resource → Bool) (of : Resource) (ofs : List Resource)
+    → stands of (filter test ofs) ≡ (test of && stands of ofs)
 stands-filter test of [] = by (test of)
   where
     by : (b : Bool) → false ≡ (b && false)
@@ -29,7 +30,8 @@ stands-filter test of (one ∷ ofs) = by (test one) (is_eq (resource_cmp of one)
     alike : is_eq (resource_cmp of one) ≡ true → test of ≡ test one
     alike h = ap test (tied_resource of one h)
 
-    by : (b c : Bool) → test one ≡ b → is_eq (resource_cmp of one) ≡ c → stands of (filter test ofs) ≡ (test of && stands of ofs)
+    by : (b c : Bool) → test one ≡ b → is_eq (resource_cmp of one) ≡ c
+        → stands of (filter test ofs) ≡ (test of && stands of ofs)
         → stands of (filter test (one ∷ ofs)) ≡ (test of && stands of (one ∷ ofs))
     by true true e f below = rw (e, f, alike f, e) refl
     by true false e f below = rw (e, f) below

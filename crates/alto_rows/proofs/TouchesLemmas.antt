@@ -13,7 +13,8 @@ use Rattle.alto_rows.specs.declared.resource.Resource.TheVariants as resource
 use Rattle.alto_rows.specs.declared.write.Write.{Write}
 use Rattle.alto_rows.specs.Order.{key_cmp, name_cmp, net_of, resource_cmp, same_name}
 use Rattle.alto_rows.specs.Touches.{same_resource, part_of, versions_map, is_resource, is_net, touches}
-use Rattle.alto_rows.proofs.OrderLemmas.{name_cmp_exact, resource_cmp_exact, resource_cmp_itself, name_cmp_itself, equal_tests, one_key}
+use Rattle.alto_rows.proofs.OrderLemmas.{name_cmp_exact, resource_cmp_exact, resource_cmp_itself, name_cmp_itself}
+use Rattle.alto_rows.proofs.OrderLemmas.{equal_tests, one_key}
 use Rattle.alto_rows.proofs.ResourceLemmas.{or_false, or_true}
 use Rattle.alto_rows.proofs.WriteLemmas.{NoneWrites}
 
@@ -31,7 +32,8 @@ both_ties Greater p = refl
 pub same_resource_ties : (a b : Resource) → same_resource a b ≡ is_eq (resource_cmp a b)
 unfolding resource_cmp
 same_resource_ties (resource.Net a) (resource.Net b) = same_name_ties a b
-same_resource_ties (resource.Cost a m) (resource.Cost b n) = rw (same_name_ties a b, same_name_ties m n) (sym (both_ties (name_cmp a b) (name_cmp m n)))
+same_resource_ties (resource.Cost a m) (resource.Cost b n) =
+    rw (same_name_ties a b, same_name_ties m n) (sym (both_ties (name_cmp a b) (name_cmp m n)))
 same_resource_ties (resource.Prop a) (resource.Prop b) = same_name_ties a b
 same_resource_ties _ _ = refl
 
@@ -70,7 +72,8 @@ pub touches_net : (at : Key) (of : Resource) → versions_map at ≡ Some (net_o
 touches_net at of h = rw (h, same_name_itself (net_of of)) (or_true (is_resource (part_of at) of))
 
 -- and a key touches nothing else
-pub touches_only : (at : Key) (of : Resource) → touches of at ≡ true → (part_of at ≡ Some of) ⊎ (versions_map at ≡ Some (net_of of))
+pub touches_only : (at : Key) (of : Resource) → touches of at ≡ true
+    → (part_of at ≡ Some of) ⊎ (versions_map at ≡ Some (net_of of))
 touches_only at of h = by (is_resource (part_of at) of) refl h
   where
     by : (b : Bool) → is_resource (part_of at) of ≡ b → (b || is_net (versions_map at) (net_of of)) ≡ true
@@ -84,16 +87,21 @@ part_unversioned (key.Seq of) part h = cc
 part_unversioned _ part h = refl
 
 -- so it touches that document's resource alone
-pub touches-part : (at : Key) (part of : Resource) → part_of at ≡ Some part → touches of at ≡ is_eq (resource_cmp of part)
-touches-part at part of h = rw (h, part_unversioned at part h, same_resource_ties of part) (or_false (is_eq (resource_cmp of part)))
+pub touches-part : (at : Key) (part of : Resource) → part_of at ≡ Some part
+    → touches of at ≡ is_eq (resource_cmp of part)
+touches-part at part of h = rw (h, part_unversioned at part h, same_resource_ties of part)
+    (or_false (is_eq (resource_cmp of part)))
 
 -- writes none of which touch a resource write no row that is part of it
-pub none_part : (of : Resource) (at : Key) (writes : List Write) → part_of at ≡ Some of → list_any (λ write. touches of write.key) writes ≡ false
+pub none_part : (of : Resource) (at : Key) (writes : List Write) → part_of at ≡ Some of
+    → list_any (λ write. touches of write.key) writes ≡ false
     → NoneWrites at writes
 none_part of at [] part h = tt
-none_part of at (write ∷ writes) part h = by (λ g. none_part of at writes part g) (touches of write.key) refl (is_eq (key_cmp at write.key)) refl h
+none_part of at (write ∷ writes) part h =
+    by (λ g. none_part of at writes part g) (touches of write.key) refl (is_eq (key_cmp at write.key)) refl h
   where
-    by : (list_any (λ (later : Write). touches of later.key) writes ≡ false → NoneWrites at writes) → (t : Bool) → touches of write.key ≡ t → (b : Bool) → is_eq (key_cmp at write.key) ≡ b
+    by : (list_any (λ (later : Write). touches of later.key) writes ≡ false → NoneWrites at writes) → (t : Bool)
+        → touches of write.key ≡ t → (b : Bool) → is_eq (key_cmp at write.key) ≡ b
         → (t || list_any (λ (later : Write). touches of later.key) writes) ≡ false → NoneWrites at (write ∷ writes)
     by below true e b f g = cc
     by below false e true f g =

@@ -33,7 +33,8 @@ abbrev pub AreFromSpan : Span → Rows → Type 0
 AreFromSpan s rows = AllByRecursion (λ row. is_gt (span_cmp s row.0) ≡ false) rows
 
 -- the rows before a span aren't from it on
-pub rows_from_span-before : (s : Span) (before rest : Rows) → AreBeforeSpan s before → rows_from_span (before ++ rest) s ≡ rows_from_span rest s
+pub rows_from_span-before : (s : Span) (before rest : Rows) → AreBeforeSpan s before
+    → rows_from_span (before ++ rest) s ≡ rows_from_span rest s
 rows_from_span-before s [] rest h = refl
 rows_from_span-before s (row ∷ before) rest h = rw h.0 (rows_from_span-before s before rest h.1)
 
@@ -43,7 +44,8 @@ rows_from_span-past s [] h = refl
 rows_from_span-past s (row ∷ rows) h = rw h.0 (ap (λ (more : Rows). row ∷ more) (rows_from_span-past s rows h.1))
 
 -- a later key isn't before the span where an earlier one isn't
-pub later_from_span : (s : Span) (a b : Key) → key_cmp a b ≡ Less → is_gt (span_cmp s a) ≡ false → is_gt (span_cmp s b) ≡ false
+pub later_from_span : (s : Span) (a b : Key) → key_cmp a b ≡ Less → is_gt (span_cmp s a) ≡ false
+    → is_gt (span_cmp s b) ≡ false
 later_from_span s a b less from = by (span_cmp s b) refl
   where
     by : (o : Ordering) → span_cmp s b ≡ o → is_gt (span_cmp s b) ≡ false
@@ -56,26 +58,32 @@ later_from_span s a b less from = by (span_cmp s b) refl
         cc
 
 -- nor are the rows after it
-past_from_span : (s : Span) (at : Key) (rows : Rows) → is_gt (span_cmp s at) ≡ false → ArePast at rows → AreFromSpan s rows
+past_from_span : (s : Span) (at : Key) (rows : Rows) → is_gt (span_cmp s at) ≡ false → ArePast at rows
+    → AreFromSpan s rows
 past_from_span s at [] from past = tt
-past_from_span s at (row ∷ rows) from past = (later_from_span s at row.0 past.0 from, past_from_span s at rows from past.1)
+past_from_span s at (row ∷ rows) from past =
+    (later_from_span s at row.0 past.0 from, past_from_span s at rows from past.1)
 
 -- the rows that aren't before a span are the last rows
 pub rows_from_span_tail : (rows : Rows) (s : Span) → AreSorted rows → IsTail rows (rows_from_span rows s)
 rows_from_span_tail [] s sorted = record { front = []; whole = refl }
-rows_from_span_tail (row ∷ rows) s sorted = by (rows_from_span_tail rows s (sorted_rest row rows sorted)) (is_gt (span_cmp s row.0)) refl
+rows_from_span_tail (row ∷ rows) s sorted =
+    by (rows_from_span_tail rows s (sorted_rest row rows sorted)) (is_gt (span_cmp s row.0)) refl
   where
-    by : IsTail rows (rows_from_span rows s) → (b : Bool) → is_gt (span_cmp s row.0) ≡ b → IsTail (row ∷ rows) (rows_from_span (row ∷ rows) s)
+    by : IsTail rows (rows_from_span rows s) → (b : Bool) → is_gt (span_cmp s row.0) ≡ b
+        → IsTail (row ∷ rows) (rows_from_span (row ∷ rows) s)
     by below true e = rw e (tail_more row rows (rows_from_span rows s) below)
     by below false e =
-        rw (rows_from_span-past s (row ∷ rows) (e, past_from_span s row.0 rows e (past_first row rows sorted))) (record { front = []; whole = refl })
+        rw (rows_from_span-past s (row ∷ rows) (e, past_from_span s row.0 rows e (past_first row rows sorted)))
+        (record { front = []; whole = refl })
 
 -- none of them is before it
 pub from_rows_from_span : (rows : Rows) (s : Span) → AreFromSpan s (rows_from_span rows s)
 from_rows_from_span [] s = tt
 from_rows_from_span (row ∷ rows) s = by (from_rows_from_span rows s) (is_gt (span_cmp s row.0)) refl
   where
-    by : AreFromSpan s (rows_from_span rows s) → (b : Bool) → is_gt (span_cmp s row.0) ≡ b → AreFromSpan s (rows_from_span (row ∷ rows) s)
+    by : AreFromSpan s (rows_from_span rows s) → (b : Bool) → is_gt (span_cmp s row.0) ≡ b
+        → AreFromSpan s (rows_from_span (row ∷ rows) s)
     by below true e = rw e below
     by below false e = rw e (e, below)
 
@@ -91,9 +99,11 @@ before_span_outside s at before = in_span s at ∙ by (span_cmp s at) before
 -- the rows of a span are among those that aren't before it
 pub rows_in-rows_from_span : (rows : Rows) (s : Span) → rows_in (rows_from_span rows s) s ≡ rows_in rows s
 rows_in-rows_from_span [] s = refl
-rows_in-rows_from_span (row ∷ rows) s = by (rows_in-rows_from_span rows s) (is_gt (span_cmp s row.0)) (is_in s row.0) refl refl
+rows_in-rows_from_span (row ∷ rows) s =
+    by (rows_in-rows_from_span rows s) (is_gt (span_cmp s row.0)) (is_in s row.0) refl refl
   where
-    by : rows_in (rows_from_span rows s) s ≡ rows_in rows s → (g b : Bool) → is_gt (span_cmp s row.0) ≡ g → is_in s row.0 ≡ b
+    by : rows_in (rows_from_span rows s) s ≡ rows_in rows s → (g b : Bool) → is_gt (span_cmp s row.0) ≡ g
+        → is_in s row.0 ≡ b
         → rows_in (rows_from_span (row ∷ rows) s) s ≡ rows_in (row ∷ rows) s
     by below true b e f = let outside : is_in s row.0 ≡ false = before_span_outside s row.0 e in rw (e, outside) below
     by below false true e f = rw (e, f) (ap (λ (more : Rows). row ∷ more) below)
@@ -124,7 +134,8 @@ come_first s [] sorted from = refl
 come_first s (row ∷ rows) sorted from = by (come_first s rows (sorted_rest row rows sorted) from.1) (is_in s row.0) refl
   where
     by : ComeFirst s rows → (b : Bool) → is_in s row.0 ≡ b → ComeFirst s (row ∷ rows)
-    by below true e = rw (take_while-cons (λ (next : Key × Value). is_in s next.0) row rows, e) (ap (λ (more : Rows). row ∷ more) below)
+    by below true e = rw (take_while-cons (λ (next : Key × Value). is_in s next.0) row rows, e)
+        (ap (λ (more : Rows). row ∷ more) below)
     by below false e =
         rw (take_while-cons (λ (next : Key × Value). is_in s next.0) row rows, e)
         (none_behind s row.0 rows (behind_span s row.0 from.0 e) (past_first row rows sorted))
@@ -132,14 +143,18 @@ come_first s (row ∷ rows) sorted from = by (come_first s rows (sorted_rest row
 -- of the rows that aren't before a span, those of the span come first
 pub come_first_from_span : (rows : Rows) (s : Span) → AreSorted rows → ComeFirst s (rows_from_span rows s)
 come_first_from_span rows s sorted =
-    come_first s (rows_from_span rows s) (sorted_tail_rows rows (rows_from_span rows s) sorted (rows_from_span_tail rows s sorted)) (from_rows_from_span rows s)
+    come_first s (rows_from_span rows s)
+    (sorted_tail_rows rows (rows_from_span rows s) sorted (rows_from_span_tail rows s sorted))
+    (from_rows_from_span rows s)
 
 -- ---- what the rows of a span hold
 
 -- the rows of a span have the values of the keys in it
-pub value_of-rows_in : (rows : Rows) (s : Span) (at : Key) → value_of (rows_in rows s) at ≡ cond (is_in s at) (value_of rows at) None
+pub value_of-rows_in : (rows : Rows) (s : Span) (at : Key)
+    → value_of (rows_in rows s) at ≡ cond (is_in s at) (value_of rows at) None
 value_of-rows_in rows s at =
-    lookup-filter-keys (is_at (key_cmp at)) (λ other. is_in s other) (is_in s at) (λ other e. let same : at ≡ other = one_key at other e in rw same refl) rows
+    lookup-filter-keys (is_at (key_cmp at)) (λ other. is_in s other) (is_in s at) (λ other e. let same : at
+    ≡ other = one_key at other e in rw same refl) rows
 
 -- their keys are those in the span
 keys_of-rows_in : (rows : Rows) (s : Span) → keys_of (rows_in rows s) ≡ filter (λ at. is_in s at) (keys_of rows)
@@ -153,10 +168,12 @@ keys_of-rows_in (row ∷ rows) s = by (keys_of-rows_in rows s) (is_in s row.0) r
 
 -- they are sorted
 pub sorted_rows_in : (rows : Rows) (s : Span) → AreSorted rows → AreSorted (rows_in rows s)
-sorted_rows_in rows s sorted = rw (keys_of-rows_in rows s) (IsStrictlySortedBy-filter key_cmp (λ at. is_in s at) (keys_of rows) sorted)
+sorted_rows_in rows s sorted =
+    rw (keys_of-rows_in rows s) (IsStrictlySortedBy-filter key_cmp (λ at. is_in s at) (keys_of rows) sorted)
 
 -- what picks from rows and gives nothing outside a span picks from the rows of the span
-pub filter_map-rows_in : {A : Type 0} (f : Key × Value → Option A) (s : Span) → ((row : Key × Value) → is_in s row.0 ≡ false → f row ≡ None)
+pub filter_map-rows_in : {A : Type 0} (f : Key × Value → Option A) (s : Span)
+    → ((row : Key × Value) → is_in s row.0 ≡ false → f row ≡ None)
     → (rows : Rows) → filter_map f rows ≡ filter_map f (rows_in rows s)
 filter_map-rows_in f s outside [] = refl
 filter_map-rows_in f s outside (row ∷ rows) = by (filter_map-rows_in f s outside rows) (is_in s row.0) refl

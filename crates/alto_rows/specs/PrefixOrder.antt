@@ -12,7 +12,8 @@ use Rattle.alto_addr.specs.Order.{addr_cmp, prefix_cmp, family_of}
 
 -- prefixes by family, then by number, then by length
 abbrev in_parts : Prefix → Prefix → Ordering
-in_parts = then_cmp (then_cmp (on (λ p. family_of p.addr) nat_cmp) (on (λ p. number_of p.addr) nat_cmp)) (on (λ p. p.len) nat_cmp)
+in_parts = then_cmp (then_cmp (on (λ p. family_of p.addr) nat_cmp) (on (λ p. number_of p.addr) nat_cmp))
+    (on (λ p. p.len) nat_cmp)
 
 in_parts_total : IsTotalOrder in_parts
 in_parts_total = search (comparing, rules)
@@ -25,4 +26,5 @@ in_parts-derived a b = search rules
 -- so it is total
 pub prefix_order_total : IsTotalOrder prefix_order.cmp-value.it
 prefix_order_total =
-    subst (λ (R : Prefix → Prefix → Ordering). IsTotalOrder R) (fun_ext (λ a. fun_ext (λ b. in_parts-derived a b))) in_parts_total
+    subst (λ (R : Prefix → Prefix → Ordering). IsTotalOrder R) (fun_ext (λ a. fun_ext (λ b. in_parts-derived a b)))
+    in_parts_total

@@ -105,7 +105,8 @@ impl Eq for PackedPrefix {
 impl PartialOrd for PackedPrefix {
     ghost partial_cmp = { as_partial_cmp prefix_order.cmp-value.it };
 
-    ghost laws = { partial_order_from_agreeing_total prefix_order.cmp-value.it prefix_order_total (Prim.search (comparing, rules)) (Prim.search (comparing, rules)) };
+    ghost laws = { partial_order_from_agreeing_total prefix_order.cmp-value.it prefix_order_total
+        (Prim.search (comparing, rules)) (Prim.search (comparing, rules)) };
 
     fn partial_cmp(&self, other: &PackedPrefix) -> Option<Ordering> {
         Some(self.cmp(other))

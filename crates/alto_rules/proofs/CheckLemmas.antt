@@ -13,14 +13,16 @@ use Rattle.alto_rules.specs.Origin.{IsDeclared}
 use Rattle.alto_rules.specs.Parts.{edit_net, edit_pids, next_cost_checks, own_checks, room_check}
 
 -- the first check, or else those behind it
-pub first_check : (broken : Rule) (b : Bool) (rest : List Check) → first_broken ((broken, b) ∷ rest) ≡ cond b (Some broken) (first_broken rest)
+pub first_check : (broken : Rule) (b : Bool) (rest : List Check)
+    → first_broken ((broken, b) ∷ rest) ≡ cond b (Some broken) (first_broken rest)
 first_check broken true rest = refl
 first_check broken false rest = refl
 
 -- the rule of an edit's network, or else of its PIDs, or else its own
 abbrev in_turn : Rows → List ℕ → List (List ℕ) → List Check → Option Rule
 in_turn rows net pids own =
-    cond (lacks rows (key.Net net)) (Some rule.G3) (cond (list_any (λ pid. lacks rows (key.Pid net pid)) pids) (Some rule.G6) (first_broken own))
+    cond (lacks rows (key.Net net)) (Some rule.G3) (cond (list_any (λ pid. lacks rows (key.Pid net pid)) pids)
+    (Some rule.G6) (first_broken own))
 
 of_net : (rows : Rows) (net : List ℕ) (own : List Check) → first_broken (in_net rows net own) ≡ in_turn rows net [] own
 of_net rows net own = first_check rule.G3 (lacks rows (key.Net net)) own
@@ -29,7 +31,8 @@ of_pids : (rows : Rows) (net : List ℕ) (pids : List (List ℕ)) (own : List Ch
     → first_broken (in_net rows net (with_pids rows net pids own)) ≡ in_turn rows net pids own
 of_pids rows net pids own =
     first_check rule.G3 (lacks rows (key.Net net)) (with_pids rows net pids own)
-    ∙ ap (λ more. cond (lacks rows (key.Net net)) (Some rule.G3) more) (first_check rule.G6 (list_any (λ pid. lacks rows (key.Pid net pid)) pids) own)
+    ∙ ap (λ more. cond (lacks rows (key.Net net)) (Some rule.G3) more)
+    (first_check rule.G6 (list_any (λ pid. lacks rows (key.Pid net pid)) pids) own)
 
 -- of any edit but `net-add`
 pub broken_in_turn : (rows : Rows) (of : Edit) → ((net : List ℕ) → of ≡ edit.NetAdd net → ⊥)
@@ -39,8 +42,10 @@ broken_in_turn rows (edit.NetAdd net) other = absurd (other net refl)
 broken_in_turn rows (edit.NetDrop net) other = of_net rows net []
 broken_in_turn rows (edit.PidAdd net pid) other = of_net rows net (own_checks rows (edit.PidAdd net pid))
 broken_in_turn rows (edit.PidDrop net pid) other = of_pids rows net (pid ∷ []) []
-broken_in_turn rows (edit.PrefixPut net pid prefix) other = of_pids rows net (pid ∷ []) (own_checks rows (edit.PrefixPut net pid prefix))
-broken_in_turn rows (edit.PrefixDel net pid prefix) other = of_pids rows net (pid ∷ []) (own_checks rows (edit.PrefixDel net pid prefix))
+broken_in_turn rows (edit.PrefixPut net pid prefix) other =
+    of_pids rows net (pid ∷ []) (own_checks rows (edit.PrefixPut net pid prefix))
+broken_in_turn rows (edit.PrefixDel net pid prefix) other =
+    of_pids rows net (pid ∷ []) (own_checks rows (edit.PrefixDel net pid prefix))
 broken_in_turn rows (edit.MetricAdd net metric) other = of_net rows net (own_checks rows (edit.MetricAdd net metric))
 broken_in_turn rows (edit.MetricDrop net metric) other = of_net rows net (own_checks rows (edit.MetricDrop net metric))
 broken_in_turn rows (edit.CostPut net metric source destination cost) other =
@@ -52,31 +57,39 @@ broken_in_turn rows (edit.PropPut net entity name v) other =
 broken_in_turn rows (edit.PropDel net entity name) other =
     of_pids rows net (edit_pids (edit.PropDel net entity name)) (own_checks rows (edit.PropDel net entity name))
 broken_in_turn rows (edit.AneAdd net ane) other = of_net rows net (own_checks rows (edit.AneAdd net ane))
-broken_in_turn rows (edit.AneSet net ane name number) other = of_net rows net (own_checks rows (edit.AneSet net ane name number))
+broken_in_turn rows (edit.AneSet net ane name number) other =
+    of_net rows net (own_checks rows (edit.AneSet net ane name number))
 broken_in_turn rows (edit.PathPut net source destination anes) other =
     of_pids rows net (source ∷ destination ∷ []) (own_checks rows (edit.PathPut net source destination anes))
 broken_in_turn rows (edit.PathDel net source destination) other =
     of_pids rows net (source ∷ destination ∷ []) (own_checks rows (edit.PathDel net source destination))
 
 -- `net-add` has its own alone
-pub broken_added : (rows : Rows) (net : List ℕ) → broken_rule rows (edit.NetAdd net) ≡ first_broken (own_checks rows (edit.NetAdd net))
+pub broken_added : (rows : Rows) (net : List ℕ)
+    → broken_rule rows (edit.NetAdd net) ≡ first_broken (own_checks rows (edit.NetAdd net))
 unfolding broken_rule
 broken_added rows net = refl
 
-pub added_rule : (rows : Rows) (of : Edit) (net : List ℕ) → of ≡ edit.NetAdd net → first_broken (own_checks rows of) ≡ broken_rule rows of
+pub added_rule : (rows : Rows) (of : Edit) (net : List ℕ) → of ≡ edit.NetAdd net
+    → first_broken (own_checks rows of) ≡ broken_rule rows of
 added_rule rows of net is = rw is (sym (broken_added rows net))
 
 -- of any other edit, the first that holds
-pub of_net_rule : (rows : Rows) (of : Edit) → ((net : List ℕ) → of ≡ edit.NetAdd net → ⊥) → has_row rows (key.Net (edit_net of)) ≡ false
+pub of_net_rule : (rows : Rows) (of : Edit) → ((net : List ℕ) → of ≡ edit.NetAdd net → ⊥)
+    → has_row rows (key.Net (edit_net of)) ≡ false
     → Some rule.G3 ≡ broken_rule rows of
 of_net_rule rows of other h = rw (broken_in_turn rows of other, h) refl
 
-pub of_pid_rule : (rows : Rows) (of : Edit) → ((net : List ℕ) → of ≡ edit.NetAdd net → ⊥) → has_row rows (key.Net (edit_net of)) ≡ true
-    → list_any (λ pid. lacks rows (key.Pid (edit_net of) pid)) (edit_pids of) ≡ true → Some rule.G6 ≡ broken_rule rows of
+pub of_pid_rule : (rows : Rows) (of : Edit) → ((net : List ℕ) → of ≡ edit.NetAdd net → ⊥)
+    → has_row rows (key.Net (edit_net of)) ≡ true
+    → list_any (λ pid. lacks rows (key.Pid (edit_net of) pid)) (edit_pids of) ≡ true
+    → Some rule.G6 ≡ broken_rule rows of
 of_pid_rule rows of other h k = rw (broken_in_turn rows of other, h, k) refl
 
-pub of_own_rule : (rows : Rows) (of : Edit) → ((net : List ℕ) → of ≡ edit.NetAdd net → ⊥) → has_row rows (key.Net (edit_net of)) ≡ true
-    → list_any (λ pid. lacks rows (key.Pid (edit_net of) pid)) (edit_pids of) ≡ false → first_broken (own_checks rows of) ≡ broken_rule rows of
+pub of_own_rule : (rows : Rows) (of : Edit) → ((net : List ℕ) → of ≡ edit.NetAdd net → ⊥)
+    → has_row rows (key.Net (edit_net of)) ≡ true
+    → list_any (λ pid. lacks rows (key.Pid (edit_net of) pid)) (edit_pids of) ≡ false
+    → first_broken (own_checks rows of) ≡ broken_rule rows of
 of_own_rule rows of other h k = rw (broken_in_turn rows of other, h, k) refl
 
 -- of a cost that is put where its network, its metric and its source are declared, the first that holds

@@ -21,10 +21,12 @@ with_writes draft writes = record { rows = draft.rows; writes = writes }
 
 -- with no more writes it is the same
 pub wrote_none : (draft : Drafted) (more : List Write) → more ≡ [] → draft ≡ wrote draft more
-wrote_none draft more none = ap (with_writes draft) (sym (append_none draft.writes) ∙ ap (λ (rest : List Write). draft.writes ++ rest) (sym none))
+wrote_none draft more none = ap (with_writes draft) (sym (append_none draft.writes)
+    ∙ ap (λ (rest : List Write). draft.writes ++ rest) (sym none))
 
 -- with more and then more it has both
-pub wrote_twice : (draft : Drafted) (first second : List Write) → wrote (wrote draft first) second ≡ wrote draft (first ++ second)
+pub wrote_twice : (draft : Drafted) (first second : List Write)
+    → wrote (wrote draft first) second ≡ wrote draft (first ++ second)
 wrote_twice draft first second = ap (with_writes draft) (append_assoc draft.writes first second)
 
 -- a key that gives no prefix gives it alone
@@ -32,7 +34,8 @@ pub alone_none : (rows : Rows) (at : Key) → gives_none at ≡ true → GivesAl
 alone_none rows at none net pid other prefix is h = absurd (both_ways (gives_none at) (ap gives_none is) none)
 
 -- version rows give no prefix
-pub versions_give_none : (rows : Rows) (ofs : List Resource) → AllByRecursion (λ write. gives_none write.key ≡ true) (map (next_version rows) ofs)
+pub versions_give_none : (rows : Rows) (ofs : List Resource)
+    → AllByRecursion (λ write. gives_none write.key ≡ true) (map (next_version rows) ofs)
 versions_give_none rows [] = tt
 versions_give_none rows (of ∷ ofs) = (refl, versions_give_none rows ofs)
 

@@ -25,7 +25,8 @@ use Rattle.alto_rules.specs.Index.{IsIndexed, is_part}
 use Rattle.alto_rules.specs.Written.{Gains, told}
 
 -- no writes
-pub indexed_opened : (rows : Rows) (w : Written) (t : BTreeSet Resource) → w.put ≡ [] → w.other.entries ≡ [] → t.keys ≡ [] → IsIndexed rows [] w t
+pub indexed_opened : (rows : Rows) (w : Written) (t : BTreeSet Resource) → w.put ≡ [] → w.other.entries ≡ []
+    → t.keys ≡ [] → IsIndexed rows [] w t
 indexed_opened rows w t p e f = record {
   rows_at = λ at. rw (p, e) refl;
   resources = λ of. rw f refl;
@@ -41,7 +42,9 @@ added false false = refl
 -- the set has the resource that a key is part of
 pub part_added : (t t' : BTreeSet Resource) (part of : Resource) → set.Updates resource_cmp t t' part true
     → contains resource_cmp t' of ≡ (contains resource_cmp t of || is_resource (Some part) of)
-part_added t t' part of more = more.0 of ∙ rw ((eq_by_cmp_equiv resource_cmp_total).symm part of, ← same_resource_ties of part) (added (is_resource (Some part) of) (contains resource_cmp t of))
+part_added t t' part of more =
+    more.0 of ∙ rw ((eq_by_cmp_equiv resource_cmp_total).symm part of, ← same_resource_ties of part)
+    (added (is_resource (Some part) of) (contains resource_cmp t of))
 
 -- a row that is written, or else as it was
 put_or_kept : (b : Bool) (v old : Option Value) (g : Option Bool) (o : Bool) → is_some old ≡ unwrap_or g o
@@ -50,14 +53,16 @@ put_or_kept true v old g o h = refl
 put_or_kept false v old g o h = h
 
 -- the index stays true under a write, where the map and the set have gained it
-pub indexed_more : (rows : Rows) (writes : List Write) (at : Key) (v : Option Value) (w w' : Written) (t t' : BTreeSet Resource)
+pub indexed_more : (rows : Rows) (writes : List Write) (at : Key) (v : Option Value) (w w' : Written)
+    (t t' : BTreeSet Resource)
     → AreSorted rows → IsIndexed rows writes w t → Gains w w' at (is_some v)
     → ((of : Resource) → contains resource_cmp t' of ≡ (contains resource_cmp t of || is_resource (part_of at) of))
     → IsIndexed rows (writes ++ writing at v ∷ []) w' t'
 indexed_more rows writes at v w w' t t' s old put more = record {
   rows_at = λ q.
       rw (value_of-after-push rows writes (writing at v) q s, put q, same_key_back q at)
-      (put_or_kept (is_eq (key_cmp at q)) v (value_of (after rows writes) q) (told w q) (has_row rows q) (old.rows_at q));
+      (put_or_kept (is_eq (key_cmp at q)) v (value_of (after rows writes) q) (told w q) (has_row rows q)
+      (old.rows_at q));
   resources = λ of.
       more of
       ∙ (ap (λ b. b || is_resource (part_of at) of) (old.resources of)

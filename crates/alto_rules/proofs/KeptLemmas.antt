@@ -31,10 +31,12 @@ draft_more rows writes at v kept later old alone more = record {
   pids = rw more.pids old.pids;
   sized =
       rw (after-push rows writes (writing at v))
-      (sizes_more rows (after rows writes) at v (had_row rows kept at) kept.sizes.total later.sizes.total kept.sizes.counts later.sizes.counts
+      (sizes_more rows (after rows writes) at v (had_row rows kept at) kept.sizes.total later.sizes.total
+      kept.sizes.counts later.sizes.counts
       (sorted_after rows writes old.sorted) (sym (old.indexed.rows_at at)) old.sized more.total more.counts);
   owned =
       rw (after-push rows writes (writing at v), more.known)
-      (owners_more rows (after rows writes) at v (had_row rows kept at) kept.owners.of later.owners.of kept.owners.known old.one_owner
+      (owners_more rows (after rows writes) at v (had_row rows kept at) kept.owners.of later.owners.of
+      kept.owners.known old.one_owner
       (sorted_after rows writes old.sorted) (sym (old.indexed.rows_at at)) alone old.owned more.changed);
 }

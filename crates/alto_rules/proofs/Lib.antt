@@ -2,7 +2,9 @@ pub mod Orders
 pub mod WrittenLemmas
 pub mod IndexLemmas
 pub mod SizeLemmas
+pub mod ToldLemmas
 pub mod OwnerLemmas
+pub mod FillingLemmas
 pub mod PickLemmas
 pub mod TakeLemmas
 pub mod CheckLemmas

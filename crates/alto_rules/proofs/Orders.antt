@@ -72,7 +72,8 @@ one_counted (counted.Costs a m) (counted.Costs b n) h =
 one_counted _ _ h = cc
 
 -- places that tie are of one network and one prefix
-pub one_place : (n m : List ℕ) (x y : Prefix) → is_eq (place_cmp (place_of n x) (place_of m y)) ≡ true → (n ≡ m) × (x ≡ y)
+pub one_place : (n m : List ℕ) (x y : Prefix) → is_eq (place_cmp (place_of n x) (place_of m y)) ≡ true
+    → (n ≡ m) × (x ≡ y)
 unfolding place_cmp
 one_place n m x y h =
     let parts : (is_eq (name_cmp n m) ≡ true) × (is_eq (prefix_cmp x y) ≡ true) =

@@ -26,11 +26,13 @@ GoesByKey test = (at : Key) (v : Value) → test (at, v) ≡ test (at, value.Uni
 keys_of-filter : (test : Key × Value → Bool) (rows : Rows) → GoesByKey test
     → keys_of (filter test rows) ≡ filter (λ at. test (at, value.Unit)) (keys_of rows)
 keys_of-filter test [] same = refl
-keys_of-filter test (row ∷ rows) same = rw (same row.0 row.1) (by (keys_of-filter test rows same) (test (row.0, value.Unit)))
+keys_of-filter test (row ∷ rows) same =
+    rw (same row.0 row.1) (by (keys_of-filter test rows same) (test (row.0, value.Unit)))
   where
     by : keys_of (filter test rows) ≡ filter (λ at. test (at, value.Unit)) (keys_of rows)
         → (b : Bool) → keys_of (cond b (row ∷ filter test rows) (filter test rows))
-        ≡ cond b (row.0 ∷ filter (λ at. test (at, value.Unit)) (keys_of rows)) (filter (λ at. test (at, value.Unit)) (keys_of rows))
+        ≡ cond b (row.0 ∷ filter (λ at. test (at, value.Unit)) (keys_of rows))
+        (filter (λ at. test (at, value.Unit)) (keys_of rows))
     by below true = ap (λ (keys : List Key). row.0 ∷ keys) below
     by below false = below
 
@@ -40,7 +42,8 @@ among_keys [] at = refl
 among_keys (row ∷ rows) at = by (among_keys rows at) (is_eq (key_cmp at row.0)) refl
   where
     by : list_any (is_at (key_cmp at)) (keys_of rows) ≡ has_row rows at
-        → (b : Bool) → is_eq (key_cmp at row.0) ≡ b → list_any (is_at (key_cmp at)) (keys_of (row ∷ rows)) ≡ has_row (row ∷ rows) at
+        → (b : Bool) → is_eq (key_cmp at row.0) ≡ b
+        → list_any (is_at (key_cmp at)) (keys_of (row ∷ rows)) ≡ has_row (row ∷ rows) at
     by below true e = rw e refl
     by below false e = rw e below
 
@@ -50,7 +53,8 @@ deletings [] = refl
 deletings (row ∷ rows) = ap (λ (writes : List Write). deleting row.0 ∷ writes) (deletings rows)
 
 -- keys in order, exactly those that have rows which pass a test, are deleted as these rows are
-pub picked : (test : Key × Value → Bool) (rows : Rows) (keys : List Key) → AreSorted rows → GoesByKey test → IsStrictlySortedBy key_cmp keys
+pub picked : (test : Key × Value → Bool) (rows : Rows) (keys : List Key) → AreSorted rows → GoesByKey test
+    → IsStrictlySortedBy key_cmp keys
     → ((at : Key) → list_any (is_at (key_cmp at)) keys ≡ (test (at, value.Unit) && has_row rows at))
     → map deleting keys ≡ map (λ (row : Key × Value). deleting row.0) (filter test rows)
 picked test rows keys s same sorted among =
@@ -58,7 +62,8 @@ picked test rows keys s same sorted among =
   where
     all : keys ≡ filter (λ at. test (at, value.Unit)) (keys_of rows)
     all =
-        btree_set_from_contains key_cmp_total (record { keys = keys }) (record { keys = filter (λ at. test (at, value.Unit)) (keys_of rows) })
+        btree_set_from_contains key_cmp_total (record { keys = keys })
+        (record { keys = filter (λ at. test (at, value.Unit)) (keys_of rows) })
         sorted (IsStrictlySortedBy-filter key_cmp (λ at. test (at, value.Unit)) (keys_of rows) s)
         (λ at.
         among at

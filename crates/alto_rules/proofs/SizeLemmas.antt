@@ -1,7 +1,8 @@
 -- The sizes of a draft stay true under a write.
 use Rattle.std.proofs.Common.{◌≡◌, refl, ap, sym, ◌∙◌, arith, suc}
 use Rattle.std.proofs.lemmas.Cmp.{eq_by_cmp_equiv}
-use Rattle.std.specs.Prelude.{ℕ, ◌+◌, Bool, true, false, cond, ◌&&◌, [], ◌∷◌, filter, length, Option, Some, None, is_some}
+use Rattle.std.specs.Prelude.{ℕ, ◌+◌, Bool, true, false, cond, ◌&&◌, [], ◌∷◌, filter, length, Option, Some, None}
+use Rattle.std.specs.Prelude.{is_some}
 use Rattle.std.specs.BTreeMap as map
 use Rattle.std.specs.BTreeMap.{BTreeMap}
 use Rattle.std.specs.Option.{unwrap_or}
@@ -34,12 +35,14 @@ bit true = 1
 bit false = 0
 
 -- one row more than some, where no row passes that is taken away
-first_put : (row : Key × Value) (t : Bool) (rest : Rows) → length (cond t (row ∷ rest) rest) + bit (t && false) ≡ length rest + bit t
+first_put : (row : Key × Value) (t : Bool) (rest : Rows)
+    → length (cond t (row ∷ rest) rest) + bit (t && false) ≡ length rest + bit t
 first_put row true rest = omega arith
 first_put row false rest = refl
 
 -- a row in place of another of its key
-same_put : (new old : Key × Value) (t u : Bool) (rest : Rows) → length (cond t (new ∷ rest) rest) + bit (u && true) ≡ length (cond t (old ∷ rest) rest) + bit u
+same_put : (new old : Key × Value) (t u : Bool) (rest : Rows)
+    → length (cond t (new ∷ rest) rest) + bit (u && true) ≡ length (cond t (old ∷ rest) rest) + bit u
 same_put new old true true rest = refl
 same_put new old true false rest = refl
 same_put new old false true rest = refl
@@ -59,16 +62,19 @@ count_put test (row ∷ rows) at v s = by (count_put test rows at v (sorted_rest
   where
     by : count test (with_value rows at (Some v)) + bit (test at && has_row rows at) ≡ count test rows + bit (test at)
         → (o : Ordering) → key_cmp at row.0 ≡ o
-        → count test (with_value (row ∷ rows) at (Some v)) + bit (test at && has_row (row ∷ rows) at) ≡ count test (row ∷ rows) + bit (test at)
+        → count test (with_value (row ∷ rows) at (Some v)) + bit (test at && has_row (row ∷ rows) at)
+        ≡ count test (row ∷ rows) + bit (test at)
     by below Less e =
         rw (e, value_of-past at rows (past_lesser at row.0 e rows (past_first row rows s)))
         (first_put (at, v) (test at) (filter (λ r. test r.0) (row ∷ rows)))
     by below Equal e = rw e (same_put (row.0, v) row (test row.0) (test at) (filter (λ r. test r.0) rows))
     by below Greater e =
-        rw e (more_put row (test row.0) (filter (λ r. test r.0) (with_value rows at (Some v))) (filter (λ r. test r.0) rows) (bit (test at && has_row rows at)) (bit (test at)) below)
+        rw e (more_put row (test row.0) (filter (λ r. test r.0) (with_value rows at (Some v)))
+        (filter (λ r. test r.0) rows) (bit (test at && has_row rows at)) (bit (test at)) below)
 
 -- a row that is taken away
-gone_first : (row : Key × Value) (t : Bool) (rest : Rows) → length rest + bit (t && true) ≡ length (cond t (row ∷ rest) rest)
+gone_first : (row : Key × Value) (t : Bool) (rest : Rows)
+    → length rest + bit (t && true) ≡ length (cond t (row ∷ rest) rest)
 gone_first row true rest = omega arith
 gone_first row false rest = omega arith
 
@@ -79,7 +85,8 @@ more_gone row true new old m h = omega (arith, h)
 more_gone row false new old m h = h
 
 -- a deletion takes one away where its key passes and had a row
-count_delete : (test : Key → Bool) (rows : Rows) (at : Key) → count test (with_value rows at None) + bit (test at && has_row rows at) ≡ count test rows
+count_delete : (test : Key → Bool) (rows : Rows) (at : Key)
+    → count test (with_value rows at None) + bit (test at && has_row rows at) ≡ count test rows
 count_delete test [] at = by (test at)
   where
     by : (t : Bool) → 0 + bit (t && false) ≡ 0
@@ -89,10 +96,12 @@ count_delete test (row ∷ rows) at = by (count_delete test rows at) (is_eq (key
   where
     by : count test (with_value rows at None) + bit (test at && has_row rows at) ≡ count test rows
         → (b : Bool) → is_eq (key_cmp at row.0) ≡ b
-        → count test (with_value (row ∷ rows) at None) + bit (test at && has_row (row ∷ rows) at) ≡ count test (row ∷ rows)
+        → count test (with_value (row ∷ rows) at None) + bit (test at && has_row (row ∷ rows) at)
+        ≡ count test (row ∷ rows)
     by below true e = rw (e, one_key at row.0 e) (gone_first row (test row.0) (filter (λ r. test r.0) rows))
     by below false e =
-        rw e (more_gone row (test row.0) (filter (λ r. test r.0) (with_value rows at None)) (filter (λ r. test r.0) rows) (bit (test at && has_row rows at)) below)
+        rw e (more_gone row (test row.0) (filter (λ r. test r.0) (with_value rows at None))
+        (filter (λ r. test r.0) rows) (bit (test at && has_row rows at)) below)
 
 -- a count that gains what came and loses what went
 gained : (had : Bool) (m n : ℕ) → m + bit had ≡ n + 1 → m ≡ recounted had true n
@@ -105,7 +114,8 @@ lost false m n h = omega (arith, h)
 
 -- how many rows pass a test after a write
 pub count_after : (test : Key → Bool) (rows : Rows) (at : Key) (v : Option Value) → AreSorted rows
-    → count test (with_value rows at v) ≡ cond (test at) (recounted (has_row rows at) (is_some v) (count test rows)) (count test rows)
+    → count test (with_value rows at v) ≡ cond (test at) (recounted (has_row rows at) (is_some v) (count test rows))
+    (count test rows)
 count_after test rows at (Some v) s = by (test at) (has_row rows at) (count_put test rows at v s)
   where
     by : (t had : Bool) → count test (with_value rows at (Some v)) + bit (t && had) ≡ count test rows + bit t
@@ -145,16 +155,20 @@ in_counted _ _ = refl
 -- ---- the sizes after a write
 
 -- the sizes of the rows of a store
-pub sizes_opened : (rows : Rows) (total : ℕ) (counts : BTreeMap Counted ℕ) → total ≡ length rows → counts.entries ≡ [] → AreSizes rows rows total counts
+pub sizes_opened : (rows : Rows) (total : ℕ) (counts : BTreeMap Counted ℕ) → total ≡ length rows → counts.entries ≡ []
+    → AreSizes rows rows total counts
 sizes_opened rows total counts e f = record {
   all = sym e;
   each = λ one. rw f refl;
 }
 
 -- the sizes stay true under a write, where they have gained it
-pub sizes_more : (rows later : Rows) (at : Key) (v : Option Value) (had : Bool) (total total' : ℕ) (counts counts' : BTreeMap Counted ℕ)
-    → AreSorted later → had ≡ has_row later at → AreSizes rows later total counts → total' ≡ recounted had (is_some v) total
-    → HasRecounted rows (counted_of at) had (is_some v) counts counts' → AreSizes rows (with_value later at v) total' counts'
+pub sizes_more : (rows later : Rows) (at : Key) (v : Option Value) (had : Bool) (total total' : ℕ)
+    (counts counts' : BTreeMap Counted ℕ)
+    → AreSorted later → had ≡ has_row later at → AreSizes rows later total counts
+    → total' ≡ recounted had (is_some v) total
+    → HasRecounted rows (counted_of at) had (is_some v) counts counts'
+    → AreSizes rows (with_value later at v) total' counts'
 sizes_more rows later at v had total total' counts counts' s is_had old whole one_more = record {
   all =
       sym (count_all (with_value later at v))
@@ -167,12 +181,15 @@ sizes_more rows later at v had total total' counts counts' s is_had old whole on
   where
     tie : (one other : Counted) → (b : Bool) → is_eq (counted_cmp one other) ≡ b
         → cond b (recounted had (is_some v) (count_from rows counts one)) (count_from rows counts one)
-        ≡ unwrap_or (cond b (Some (recounted had (is_some v) (count_from rows counts other))) (map.get counted_cmp counts one)) (count_in rows (span_of one))
+        ≡ unwrap_or (cond b (Some (recounted had (is_some v) (count_from rows counts other)))
+        (map.get counted_cmp counts one)) (count_in rows (span_of one))
     tie one other true e = rw (one_counted one other e) refl
     tie one other false e = refl
 
     by : (one : Counted) (for : Option Counted) → HasRecounted rows for had (is_some v) counts counts'
-        → cond (counts_for one for) (recounted had (is_some v) (count_from rows counts one)) (count_from rows counts one) ≡ count_from rows counts' one
+        → cond (counts_for one for) (recounted had (is_some v) (count_from rows counts one))
+        (count_from rows counts one) ≡ count_from rows counts' one
     by one None same = rw same refl
     by one (Some other) put =
-        rw (put.0 one, (eq_by_cmp_equiv counted_cmp_total).symm other one) (tie one other (is_eq (counted_cmp one other)) refl)
+        rw (put.0 one, (eq_by_cmp_equiv counted_cmp_total).symm other one)
+        (tie one other (is_eq (counted_cmp one other)) refl)

@@ -1,6 +1,7 @@
 -- What is told of written keys, with one key more.
 use Rattle.std.proofs.Common.{◌≡◌, refl}
-use Rattle.std.specs.Prelude.{ℕ, Bool, true, false, cond, ◌||◌, [], ◌∷◌, ◌++◌, Option, Some, None, Ok, Err, is_some, length}
+use Rattle.std.specs.Prelude.{ℕ, Bool, true, false, cond, ◌||◌, [], ◌∷◌, ◌++◌, Option, Some, None, Ok, Err, is_some}
+use Rattle.std.specs.Prelude.{length}
 use Rattle.std.specs.BTreeMap as map
 use Rattle.std.specs.Ordering.{is_eq}
 use Rattle.alto_rows.specs.declared.key.Key.{Key}

@@ -18,7 +18,8 @@ members_in (object ms) = ms
 -- the members of other names
 abbrev pub without : List ℕ → Members → Members
 without k no_members = no_members
-without k (member l d ms) = match_ordering (slice_cmp nat_cmp k l) (member l d (without k ms)) (without k ms) (member l d (without k ms))
+without k (member l d ms) =
+    match_ordering (slice_cmp nat_cmp k l) (member l d (without k ms)) (without k ms) (member l d (without k ms))
 
 -- the value at a name, and null where there is none
 abbrev pub value_or_null : List ℕ → Members → Data
@@ -45,7 +46,8 @@ abbrev mutual
   -- what the members of a patch make of members: a null takes the member of its name away, another value patches it
   pub members_patched : (patch members : Members) → Members
   members_patched no_members ms = ms
-  members_patched (member k v ps) ms = members_patched ps (if is_null v then without k ms else with_member k (patched v (value_or_null k ms)) ms)
+  members_patched (member k v ps) ms =
+      members_patched ps (if is_null v then without k ms else with_member k (patched v (value_or_null k ms)) ms)
 
 -- the target changed by the patch
 unfoldable pub merge_patched : (target patch : Data) → Data

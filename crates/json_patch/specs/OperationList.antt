@@ -28,7 +28,9 @@ value_member (Some d) = (codes "value", d) ∷ []
 -- the object of an operation
 abbrev pub operation_data : Operation → Data
 operation_data operation =
-    object_of ((codes "op", string (action_name operation.action)) ∷ (codes "path", string (pointer_text operation.path)) ∷ value_member (action_value operation.action))
+    object_of
+    ((codes "op", string (action_name operation.action)) ∷ (codes "path", string (pointer_text operation.path))
+    ∷ value_member (action_value operation.action))
 
 -- the list of these objects
 abbrev pub operations_data : List Operation → Data

@@ -51,14 +51,16 @@ in_member name ms (Ok new) = Ok (Some (object (with_value name new ms)))
 in_member name ms (Err refusal) = Err refusal
 
 -- a change of a member of an object, if there is an object
-abbrev pub changed_in : List ℕ → (Option Data → Result (Option Data) Refusal) → Refusal → Option Members → Result (Option Data) Refusal
+abbrev pub changed_in : List ℕ → (Option Data → Result (Option Data) Refusal) → Refusal → Option Members
+    → Result (Option Data) Refusal
 changed_in name change refusal None = Err refusal
 changed_in name change refusal (Some ms) = in_member name ms (change (get_member name ms))
 
 -- what an action at a path makes of what is here, if anything is
 abbrev pub changed_at : (path : List (List ℕ)) → Action → (old : Option Data) → Result (Option Data) Refusal
 changed_at [] action old = acted action old
-changed_at (name ∷ path) action old = changed_in name (changed_at path action) (refusal_of action) (option_and_then as_object old)
+changed_at (name ∷ path) action old =
+    changed_in name (changed_at path action) (refusal_of action) (option_and_then as_object old)
 
 -- a whole document can't be removed
 abbrev pub whole : Result (Option Data) Refusal → Result Data Refusal
@@ -86,7 +88,8 @@ and_then next (Err fault) = Err fault
 -- operations of which the first is the k-th, one after another (section 5)
 abbrev pub applied_from : (k : ℕ) → List Operation → Data → Result Data PatchFault
 applied_from k [] d = Ok d
-applied_from k (operation ∷ operations) d = and_then (applied_from (k + 1) operations) (at_place k (operated operation d))
+applied_from k (operation ∷ operations) d =
+    and_then (applied_from (k + 1) operations) (at_place k (operated operation d))
 
 -- what operations make of a document, up to the first that is refused
 unfoldable pub operations_applied : List Operation → Data → Result Data PatchFault

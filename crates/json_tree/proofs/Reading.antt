@@ -5,7 +5,8 @@ use Rattle.json.specs.Lex.{tokens}
 use Rattle.json.specs.Json as json
 use Rattle.json.specs.Tree as tree
 use Rattle.json.proofs.Printed.Trees.{value-json_tokens}
-use Rattle.serde_json.specs.Data.{Data, null, boolean, number, string, array, object, Items, no_items, item, Members, no_members, member, depth, items_depth, members_depth}
+use Rattle.serde_json.specs.Data.{Data, null, boolean, number, string, array, object, Items, no_items, item, Members}
+use Rattle.serde_json.specs.Data.{no_members, member, depth, items_depth, members_depth}
 use Rattle.serde_json.specs.Read.{read, of_json, max_depth}
 use Rattle.serde_json.specs.Written.{outline, items_outline, members_outline}
 
@@ -30,6 +31,8 @@ mutual
 abbrev whole : Option (json.Json × List Token) → Option Data
 whole o = option_and_then of_json (option_and_then (λ p. json.if_last p.0 p.1) o)
 
-pub read_back : (d : Data) (text : List ℕ) → tokens text ≡ tree.json_tokens (outline d) → of_json (outline d) ≡ Some d → depth d ≤ max_depth → read text ≡ Some d
+pub read_back : (d : Data) (text : List ℕ) → tokens text ≡ tree.json_tokens (outline d) → of_json (outline d) ≡ Some d
+    → depth d ≤ max_depth → read text ≡ Some d
 read_back d text written reads shallow =
-    ap whole (ap (json.value max_depth) (written ∙ sym (append-nil _)) ∙ value-json_tokens (outline d) max_depth [] (omega (arith, depth-outline d))) ∙ reads
+    ap whole (ap (json.value max_depth) (written ∙ sym (append-nil _))
+    ∙ value-json_tokens (outline d) max_depth [] (omega (arith, depth-outline d))) ∙ reads

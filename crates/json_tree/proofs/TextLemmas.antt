@@ -1,5 +1,6 @@
 -- The text of what a tree holds is UTF-8, and reads as that value.
-use Rattle.std.proofs.Common.{◌≡◌, ℕ, ◌≤◌, List, [], ◌∷◌, Bool, true, false, Some, Ok, option_map, Less, Greater, nat_cmp, refl, sym, ap, ◌∙◌, subst}
+use Rattle.std.proofs.Common.{◌≡◌, ℕ, ◌≤◌, List, [], ◌∷◌, Bool, true, false, Some, Ok, option_map, Less, Greater}
+use Rattle.std.proofs.Common.{nat_cmp, refl, sym, ap, ◌∙◌, subst}
 use Rattle.std.proofs.lemmas.Cmp.{nat_list_cmp_total}
 use Rattle.std.proofs.lemmas.Fmt.{IsAscii-decimal}
 use Rattle.std.proofs.lemmas.Str.{IsUtf8-append, IsUtf8-from_ascii, IsUtf8-nil, is_utf8-from_IsUtf8}
@@ -14,9 +15,11 @@ use Rattle.json.proofs.Printed.Decimals.{IsNumber-decimal}
 use Rattle.json.proofs.Printed.Tokens.{tokens-print}
 use Rattle.json.proofs.Printed.Trees.{ArePrintable-json_tokens}
 use Rattle.json.proofs.Printed.Utf8.{IsUtf8-are_ascii, IsUtf8-boolean, IsUtf8-quoted}
-use Rattle.serde_json.specs.Data.{Num, unsigned, negative, float, Data, null, boolean, number, string, array, object, Items, no_items, item, Members, no_members, member, put, depth}
+use Rattle.serde_json.specs.Data.{Num, unsigned, negative, float, Data, null, boolean, number, string, array, object}
+use Rattle.serde_json.specs.Data.{Items, no_items, item, Members, no_members, member, put, depth}
 use Rattle.serde_json.specs.Read.{read, of_json, of_items, of_members, max_depth}
-use Rattle.serde_json.specs.Written.{number_text, outline, items_outline, members_outline, comma_if, compact_text, items_text, members_text}
+use Rattle.serde_json.specs.Written.{number_text, outline, items_outline, members_outline, comma_if, compact_text}
+use Rattle.serde_json.specs.Written.{items_text, members_text}
 use Rattle.serde_json.proofs.Numbers.{number_of-decimal}
 use Rattle.serde_json.proofs.Texts.{print-outline}
 use Rattle.json_tree.specs.Laws.{IsTreeNumber, IsOfTree, ItemsAreOfTrees, MembersAreOfTrees}
@@ -47,16 +50,22 @@ mutual
   IsUtf8-compact_text (number n) h = IsUtf8-number_text n h
   IsUtf8-compact_text (string s) h = IsUtf8-quoted s h
   IsUtf8-compact_text (array ds) h = IsUtf8-append (91 ∷ []) _ (IsUtf8-are_ascii _ refl) (IsUtf8-items_text false ds h)
-  IsUtf8-compact_text (object ms) h = IsUtf8-append (123 ∷ []) _ (IsUtf8-are_ascii _ refl) (IsUtf8-members_text false ms h.1)
+  IsUtf8-compact_text (object ms) h =
+      IsUtf8-append (123 ∷ []) _ (IsUtf8-are_ascii _ refl) (IsUtf8-members_text false ms h.1)
 
   IsUtf8-items_text : (later : Bool) (ds : Items) → ItemsAreOfTrees ds → IsUtf8 (items_text later ds)
   IsUtf8-items_text later no_items h = IsUtf8-are_ascii _ refl
-  IsUtf8-items_text later (item d ds) h = IsUtf8-append _ _ (IsUtf8-comma_if later) (IsUtf8-append _ _ (IsUtf8-compact_text d h.0) (IsUtf8-items_text true ds h.1))
+  IsUtf8-items_text later (item d ds) h =
+      IsUtf8-append _ _ (IsUtf8-comma_if later)
+      (IsUtf8-append _ _ (IsUtf8-compact_text d h.0) (IsUtf8-items_text true ds h.1))
 
   IsUtf8-members_text : (later : Bool) (ms : Members) → MembersAreOfTrees ms → IsUtf8 (members_text later ms)
   IsUtf8-members_text later no_members h = IsUtf8-are_ascii _ refl
   IsUtf8-members_text later (member k d ms) h =
-      IsUtf8-append _ _ (IsUtf8-comma_if later) (IsUtf8-append _ _ (IsUtf8-quoted k h.0) (IsUtf8-append (58 ∷ []) _ (IsUtf8-are_ascii _ refl) (IsUtf8-append _ _ (IsUtf8-compact_text d h.1) (IsUtf8-members_text true ms h.2))))
+      IsUtf8-append _ _ (IsUtf8-comma_if later)
+      (IsUtf8-append _ _ (IsUtf8-quoted k h.0)
+      (IsUtf8-append (58 ∷ []) _ (IsUtf8-are_ascii _ refl)
+      (IsUtf8-append _ _ (IsUtf8-compact_text d h.1) (IsUtf8-members_text true ms h.2))))
 
 -- ---- its numbers are written as numbers, and are whole
 
@@ -108,19 +117,24 @@ joined-none : (found : Members) → joined found no_members ≡ found
 joined-none no_members = refl
 joined-none (member k d found) = ap (member k d) (joined-none found)
 
-joined-one : (found : Members) (k : List ℕ) (d : Data) (ms : Members) → joined (joined found (member k d no_members)) ms ≡ joined found (member k d ms)
+joined-one : (found : Members) (k : List ℕ) (d : Data) (ms : Members)
+    → joined (joined found (member k d no_members)) ms ≡ joined found (member k d ms)
 joined-one no_members k d ms = refl
 joined-one (member l e found) k d ms = ap (member l e) (joined-one found k d ms)
 
-below_middle : (l : List ℕ) (found : Members) (k : List ℕ) (d : Data) (ms : Members) → AllByRecursion (λ y. slice_cmp nat_cmp l y ≡ Less) (names_of (joined found (member k d ms))) → slice_cmp nat_cmp l k ≡ Less
+below_middle : (l : List ℕ) (found : Members) (k : List ℕ) (d : Data) (ms : Members)
+    → AllByRecursion (λ y. slice_cmp nat_cmp l y ≡ Less) (names_of (joined found (member k d ms)))
+    → slice_cmp nat_cmp l k ≡ Less
 below_middle l no_members k d ms h = h.0
 below_middle l (member m e found) k d ms h = below_middle l found k d ms h.1
 
-put_beyond : (found : Members) (k : List ℕ) (d : Data) (ms : Members) → AreInOrder (joined found (member k d ms)) → put k d found ≡ joined found (member k d no_members)
+put_beyond : (found : Members) (k : List ℕ) (d : Data) (ms : Members) → AreInOrder (joined found (member k d ms))
+    → put k d found ≡ joined found (member k d no_members)
 unfolding IsStrictlySortedBy
 put_beyond no_members k d ms h = refl
 put_beyond (member l e found) k d ms h =
-    let above : slice_cmp nat_cmp k l ≡ Greater = nat_list_cmp_total.antisymm k l ∙ ap ordering_reverse (below_middle l found k d ms h.0) in
+    let above : slice_cmp nat_cmp k l ≡ Greater = nat_list_cmp_total.antisymm k l
+    ∙ ap ordering_reverse (below_middle l found k d ms h.0) in
     rw above (ap (member l e) (put_beyond found k d ms h.1))
 
 mutual
@@ -138,24 +152,29 @@ mutual
   of_items-outline no_items h = refl
   of_items-outline (item d ds) h = rw (of_json-outline d h.0, of_items-outline ds h.1)
 
-  of_members-outline : (ms found : Members) → MembersAreOfTrees ms → AreInOrder (joined found ms) → of_members (members_outline ms) found ≡ Some (joined found ms)
+  of_members-outline : (ms found : Members) → MembersAreOfTrees ms → AreInOrder (joined found ms)
+      → of_members (members_outline ms) found ≡ Some (joined found ms)
   of_members-outline no_members found h ordered = ap Some (sym (joined-none found))
   of_members-outline (member k d ms) found h ordered =
       let next = joined found (member k d no_members) in
       let still : AreInOrder (joined next ms) = subst AreInOrder (sym (joined-one found k d ms)) ordered in
-      rw (of_json-outline d h.1, put_beyond found k d ms ordered) (of_members-outline ms next h.2 still ∙ ap Some (joined-one found k d ms))
+      rw (of_json-outline d h.1, put_beyond found k d ms ordered) (of_members-outline ms next h.2 still
+      ∙ ap Some (joined-one found k d ms))
 
 -- ---- the law
 
 read_compact_text : (d : Data) → IsOfTree d → depth d ≤ max_depth → read (compact_text d) ≡ Some d
 read_compact_text d h shallow =
-    let written : tokens (compact_text d) ≡ json_tokens (outline d) = ap tokens (sym (print-outline d)) ∙ tokens-print (json_tokens (outline d)) (ArePrintable-json_tokens (outline d) (HasNumbers-outline d h)) in
+    let written : tokens (compact_text d) ≡ json_tokens (outline d) = ap tokens (sym (print-outline d))
+    ∙ tokens-print (json_tokens (outline d)) (ArePrintable-json_tokens (outline d) (HasNumbers-outline d h)) in
     read_back d (compact_text d) written (of_json-outline d h) shallow
 
 -- a text in UTF-8 that reads as whole data
-pub whole_value-read : (text : List ℕ) (d : Data) → IsUtf8 text → read text ≡ Some d → is_whole d ≡ true → whole_value text ≡ Ok d
+pub whole_value-read : (text : List ℕ) (d : Data) → IsUtf8 text → read text ≡ Some d → is_whole d ≡ true
+    → whole_value text ≡ Ok d
 unfolding whole_value
 whole_value-read text d utf8 reads whole = rw (value_of_text text utf8, reads, whole)
 
 pub whole_value-compact_text : (d : Data) → IsOfTree d → depth d ≤ max_depth → whole_value (compact_text d) ≡ Ok d
-whole_value-compact_text d h shallow = whole_value-read (compact_text d) d (IsUtf8-compact_text d h) (read_compact_text d h shallow) (whole_of_tree d h)
+whole_value-compact_text d h shallow =
+    whole_value-read (compact_text d) d (IsUtf8-compact_text d h) (read_compact_text d h shallow) (whole_of_tree d h)

@@ -25,6 +25,7 @@ pub data_of_list : (trees : Vec Tree Global) → data_of (tree.List trees) ≡ a
 unfolding data_of
 data_of_list trees = search (rules, the_lemmas)
 
-pub data_of_object : (members : BTreeMap (List ℕ) Tree) → data_of (tree.Object members) ≡ object (entries_data members.entries)
+pub data_of_object : (members : BTreeMap (List ℕ) Tree)
+    → data_of (tree.Object members) ≡ object (entries_data members.entries)
 unfolding data_of
 data_of_object members = search (rules, the_lemmas)

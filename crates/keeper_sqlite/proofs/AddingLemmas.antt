@@ -13,7 +13,7 @@ use Rattle.sqlite.proofs.InsideLemmas.{inside_keeps, keeps_then}
 use Rattle.keeper_sqlite.specs.Store.{HasRows, with_base}
 use Rattle.keeper_sqlite.specs.Texts.{insert_text}
 use Rattle.keeper_sqlite.specs.SqlKeeper.{IsIdle, HasAdded, told}
-use Rattle.keeper_sqlite.proofs.StatementLemmas.{piece_added}
+use Rattle.keeper_sqlite.proofs.DeleteLemmas.{piece_added}
 
 module _ {S : Type 0} (g : Ghosts S) where
   pub added_none : (old : Held S) → HasAdded g old old []

@@ -18,7 +18,7 @@ use Rattle.keeper_sqlite.specs.Texts.{create_text, select_text, insert_text}
 use Rattle.keeper_sqlite.specs.SqlKeeper.{SqlKeeperData, IsClean, IsSure, IsFaithful, Holds, HoldsIn, HoldsRows}
 use Rattle.keeper_sqlite.specs.SqlKeeper.{MayLeave, IsSettled, Settles, CrashFinds, CrashKeeps, CrashAdds, CrashMoves}
 use Rattle.keeper_sqlite.proofs.TableLemmas.{base_from, read_back}
-use Rattle.keeper_sqlite.proofs.StatementLemmas.{create_left, row_left, shows_nothing}
+use Rattle.keeper_sqlite.proofs.DeleteLemmas.{create_left, row_left, shows_nothing}
 
 -- ---- while a statement runs
 

@@ -30,18 +30,23 @@ put asked prefixes kind members = cond (is_asked asked kind) (with_texts kind pr
 -- a group that lists these texts by the families that are asked for
 abbrev listing : List Family → (Name → List Data) → Data
 listing asked texts =
-    object_of (map (λ kind. (kind, array_of (texts kind))) (filter (is_asked asked) (filter (λ kind. not (is_empty (texts kind))) families)))
+    object_of (map (λ kind. (kind, array_of (texts kind)))
+    (filter (is_asked asked) (filter (λ kind. not (is_empty (texts kind))) families)))
 
 -- both families put one after the other make the group
 pub families_asked : (asked : List Family) (prefixes : List Prefix)
-    → object (put asked prefixes (codes "ipv6") (put asked prefixes (codes "ipv4") no_members)) ≡ listing asked (λ kind. texts_in_family kind prefixes)
+    → object (put asked prefixes (codes "ipv6") (put asked prefixes (codes "ipv4") no_members))
+    ≡ listing asked (λ kind. texts_in_family kind prefixes)
 families_asked asked prefixes =
     by (is_asked asked (codes "ipv4")) (is_asked asked (codes "ipv6"))
-    (is_empty (texts_in_family (codes "ipv4") prefixes)) (is_empty (texts_in_family (codes "ipv6") prefixes)) refl refl refl refl
+    (is_empty (texts_in_family (codes "ipv4") prefixes)) (is_empty (texts_in_family (codes "ipv6") prefixes))
+    refl refl refl refl
   where
     by : (a b c d : Bool) → is_asked asked (codes "ipv4") ≡ a → is_asked asked (codes "ipv6") ≡ b
-        → is_empty (texts_in_family (codes "ipv4") prefixes) ≡ c → is_empty (texts_in_family (codes "ipv6") prefixes) ≡ d
-        → object (put asked prefixes (codes "ipv6") (put asked prefixes (codes "ipv4") no_members)) ≡ listing asked (λ kind. texts_in_family kind prefixes)
+        → is_empty (texts_in_family (codes "ipv4") prefixes) ≡ c
+        → is_empty (texts_in_family (codes "ipv6") prefixes) ≡ d
+        → object (put asked prefixes (codes "ipv6") (put asked prefixes (codes "ipv4") no_members))
+        ≡ listing asked (λ kind. texts_in_family kind prefixes)
     by false false true true p q e f = rw (e, f, p, q) refl
     by false false true false p q e f = rw (e, f, p, q) refl
     by false false false true p q e f = rw (e, f, p, q) refl
@@ -74,18 +79,22 @@ all_pass (name ∷ names) = ap (λ (more : List Name). name ∷ more) (all_pass 
 pub all_asked : (rows : Rows) (net : Name) (asked : List Family)
     → object_of (map (λ pid. (pid, asked_group rows net asked pid)) (pids_of rows net))
     ≡ section_object (filtered_face (record { pids = pick.All; families = asked }) (net_face net rows))
-all_asked rows net asked = ap (λ pids. object_of (map (λ pid. (pid, asked_group rows net asked pid)) pids)) (sym (all_pass (pids_of rows net)))
+all_asked rows net asked = ap (λ pids. object_of (map (λ pid. (pid, asked_group rows net asked pid)) pids))
+    (sym (all_pass (pids_of rows net)))
 
 -- where some are: those of them that are declared
 pub some_asked : (rows : Rows) (net : Name) (asked : List Family) (names : List Name)
-    → object_of (map (λ pid. (pid, asked_group rows net asked pid)) (filter (λ pid. has_row rows (key.Pid net pid)) names))
+    → object_of (map (λ pid. (pid, asked_group rows net asked pid))
+    (filter (λ pid. has_row rows (key.Pid net pid)) names))
     ≡ section_object (filtered_face (record { pids = pick.Only names; families = asked }) (net_face net rows))
 some_asked rows net asked names =
     ap object
-    (same_members _ _ (in_order-named group (filter standing names)) (in_order-named group (filter (is_picked (pick.Only names)) (pids_of rows net)))
+    (same_members _ _ (in_order-named group (filter standing names))
+    (in_order-named group (filter (is_picked (pick.Only names)) (pids_of rows net)))
     (λ q.
     found-named group (filter standing names) q
-    ∙ (ap (λ b. cond b (Some (group q)) None) (both q) ∙ sym (found-named group (filter (is_picked (pick.Only names)) (pids_of rows net)) q))))
+    ∙ (ap (λ b. cond b (Some (group q)) None) (both q)
+    ∙ sym (found-named group (filter (is_picked (pick.Only names)) (pids_of rows net)) q))))
   where
     group : Name → Data
     group = asked_group rows net asked
@@ -99,9 +108,11 @@ some_asked rows net asked names =
     swap false true = refl
     swap false false = refl
 
-    both : (q : Name) → list_any (same_name q) (filter standing names) ≡ list_any (same_name q) (filter (is_picked (pick.Only names)) (pids_of rows net))
+    both : (q : Name) → list_any (same_name q) (filter standing names)
+        ≡ list_any (same_name q) (filter (is_picked (pick.Only names)) (pids_of rows net))
     both q =
         any-filter_same (same_name q) standing (standing q) (λ n e. ap standing (sym (one q n e))) names
         ∙ (ap (λ b. b && list_any (same_name q) names) (sym (stands_where net q rows))
         ∙ (swap (list_any (same_name q) (pids_of rows net)) (list_any (same_name q) names)
-        ∙ sym (any-filter_same (same_name q) (is_picked (pick.Only names)) (list_any (same_name q) names) (λ n e. ap (λ m. list_any (same_name m) names) (sym (one q n e))) (pids_of rows net))))
+        ∙ sym (any-filter_same (same_name q) (is_picked (pick.Only names)) (list_any (same_name q) names)
+        (λ n e. ap (λ m. list_any (same_name m) names) (sym (one q n e))) (pids_of rows net))))

@@ -27,7 +27,8 @@ no_pid net (key.Pid of pid, v) none = by (same_name net of) refl
 no_pid net _ none = refl
 
 -- nor lists it a prefix
-pub no_prefix : (net pid kind : Name) (row : Key × Value) → touches (resource.Net net) row.0 ≡ false → prefix_listed net pid kind row ≡ None
+pub no_prefix : (net pid kind : Name) (row : Key × Value) → touches (resource.Net net) row.0 ≡ false
+    → prefix_listed net pid kind row ≡ None
 no_prefix net pid kind (key.Prefix of owner prefix, v) none = by (same_name net of) refl
   where
     by : (b : Bool) → same_name net of ≡ b → prefix_listed net pid kind (key.Prefix of owner prefix, v) ≡ None
@@ -38,7 +39,8 @@ no_prefix net pid kind _ none = refl
 -- a network map with this tag, these PIDs and these texts of each family
 abbrev face_with : Name → List ℕ → List Name → (Name → Name → List Data) → Face
 face_with net tag pids texts = record {
-  meta = object_of ((codes "vtag", object_of ((codes "resource-id", string net) ∷ (codes "tag", string tag) ∷ [])) ∷ []);
+  meta = object_of ((codes "vtag", object_of ((codes "resource-id", string net) ∷ (codes "tag", string tag) ∷ []))
+      ∷ []);
   version = string tag;
   groups = pids;
   members = λ pid. filter (λ kind. not (is_empty (texts pid kind))) families;
@@ -47,7 +49,8 @@ face_with net tag pids texts = record {
 
 -- a network map is read from the epoch and from the keys that touch it
 pub same_map : MapIsOfItsKeys
-same_map rows others net s t epoch same = λ i. document net_shape (face_with net (tag i) (pids i) (λ pid kind. texts pid kind i))
+same_map rows others net s t epoch same =
+    λ i. document net_shape (face_with net (tag i) (pids i) (λ pid kind. texts pid kind i))
   where
     version : value_of rows (key.Seq (resource.Net net)) ≡ value_of others (key.Seq (resource.Net net))
     version = same (key.Seq (resource.Net net)) (nat_list_eq_equiv.refl net)
@@ -59,4 +62,5 @@ same_map rows others net s t epoch same = λ i. document net_shape (face_with ne
     pids = same_listed (pid_declared net) (touches (resource.Net net)) (no_pid net) rows others s t same
 
     texts : (pid kind : Name) → prefixes_of rows net pid kind ≡ prefixes_of others net pid kind
-    texts pid kind = same_listed (prefix_listed net pid kind) (touches (resource.Net net)) (no_prefix net pid kind) rows others s t same
+    texts pid kind = same_listed (prefix_listed net pid kind) (touches (resource.Net net)) (no_prefix net pid kind)
+        rows others s t same

@@ -27,14 +27,16 @@ standing rows net g = by (has_row rows (key.Pid net g)) ∙ sym (stands_where ne
     by false = refl
 
 -- so none that stands isn't found
-pub found_standing : (rows : Rows) (net g : Name) → stands (net_face net rows) g ≡ true → pid_standing rows net g ≡ None → ⊥
+pub found_standing : (rows : Rows) (net g : Name) → stands (net_face net rows) g ≡ true
+    → pid_standing rows net g ≡ None → ⊥
 found_standing rows net g stood none =
     let both : is_some (pid_standing rows net g) ≡ true = standing rows net g ∙ stood in
     let other : is_some (pid_standing rows net g) ≡ false = ap is_some none in
     cc
 
 -- only a family's name has texts
-family_known : (kind : Name) (prefixes : List Prefix) → is_empty (texts_in_family kind prefixes) ≡ false → list_any (same_name kind) families ≡ true
+family_known : (kind : Name) (prefixes : List Prefix) → is_empty (texts_in_family kind prefixes) ≡ false
+    → list_any (same_name kind) families ≡ true
 family_known kind [] some = cc
 family_known kind (prefix ∷ prefixes) some = by (same_name kind (family prefix.addr)) refl (family_known kind prefixes)
   where
@@ -42,13 +44,15 @@ family_known kind (prefix ∷ prefixes) some = by (same_name kind (family prefix
     known (addr.V4 number) = refl
     known (addr.V6 number) = refl
 
-    by : (b : Bool) → same_name kind (family prefix.addr) ≡ b → (is_empty (texts_in_family kind prefixes) ≡ false → list_any (same_name kind) families ≡ true)
+    by : (b : Bool) → same_name kind (family prefix.addr) ≡ b
+        → (is_empty (texts_in_family kind prefixes) ≡ false → list_any (same_name kind) families ≡ true)
         → list_any (same_name kind) families ≡ true
     by true e below = rw (same_text kind (family prefix.addr) (sym e)) (known prefix.addr)
     by false e below = below (rw e at some)
 
 -- texts that stand in a group as they are
-listed_where : (kind : Name) (texts : List Data) → (is_empty texts ≡ false → list_any (same_name kind) families ≡ true) → listed texts ≡ listed_member kind texts
+listed_where : (kind : Name) (texts : List Data) → (is_empty texts ≡ false → list_any (same_name kind) families ≡ true)
+    → listed texts ≡ listed_member kind texts
 listed_where kind [] known = refl
 listed_where kind (text ∷ texts) known = rw (known refl) refl
 
@@ -56,6 +60,7 @@ listed_where kind (text ∷ texts) known = rw (known refl) refl
 pub listed_is : (rows : Rows) (net pid kind : Name) → AreGood rows
     → listed (texts_in_family kind (prefixes_owned rows net pid)) ≡ member_in (net_face net rows) pid kind
 listed_is rows net pid kind good =
-    listed_where kind (texts_in_family kind (prefixes_owned rows net pid)) (family_known kind (prefixes_owned rows net pid))
+    listed_where kind (texts_in_family kind (prefixes_owned rows net pid))
+    (family_known kind (prefixes_owned rows net pid))
     ∙ (ap (listed_member kind) (texts_owned rows net pid kind)
     ∙ sym (member_is net rows pid kind good))

@@ -28,19 +28,23 @@ is_pid_key net pid _ = false
 -- it is the one that is looked for
 pid_key : (net pid : Name) (at : Key) → is_at (key_cmp (key.Pid net pid)) at ≡ is_pid_key net pid at
 unfolding key_cmp
-pid_key net pid (key.Pid of other) = both_ties (name_cmp net of) (name_cmp pid other) ∙ rw (same_name_ties net of, same_name_ties pid other) refl
+pid_key net pid (key.Pid of other) = both_ties (name_cmp net of) (name_cmp pid other)
+    ∙ rw (same_name_ties net of, same_name_ties pid other) refl
 pid_key net pid _ = refl
 
 -- a group stands where its PID has a row
-pub stands_where : (net pid : Name) (rows : Rows) → list_any (same_name pid) (pids_of rows net) ≡ has_row rows (key.Pid net pid)
+pub stands_where : (net pid : Name) (rows : Rows)
+    → list_any (same_name pid) (pids_of rows net) ≡ has_row rows (key.Pid net pid)
 stands_where net pid rows = among rows ∙ ap (λ test. is_some (lookup test rows)) (λ i at. sym (pid_key net pid at) i)
   where
     among : (rows : Rows) → list_any (same_name pid) (pids_of rows net) ≡ is_some (lookup (is_pid_key net pid) rows)
     among [] = refl
     among ((key.Pid of other, v) ∷ rows) = by (same_name net of) (same_name pid other) refl refl (among rows)
       where
-        by : (a b : Bool) → same_name net of ≡ a → same_name pid other ≡ b → list_any (same_name pid) (pids_of rows net) ≡ is_some (lookup (is_pid_key net pid) rows)
-            → list_any (same_name pid) (pids_of ((key.Pid of other, v) ∷ rows) net) ≡ is_some (lookup (is_pid_key net pid) ((key.Pid of other, v) ∷ rows))
+        by : (a b : Bool) → same_name net of ≡ a → same_name pid other ≡ b
+            → list_any (same_name pid) (pids_of rows net) ≡ is_some (lookup (is_pid_key net pid) rows)
+            → list_any (same_name pid) (pids_of ((key.Pid of other, v) ∷ rows) net)
+            ≡ is_some (lookup (is_pid_key net pid) ((key.Pid of other, v) ∷ rows))
         by true true e f below = rw (e, f) refl
         by true false e f below = rw (e, f) below
         by false b e f below = rw e below
@@ -55,29 +59,47 @@ record HasPrefix (net pid : Name) (rows : Rows) : Type 0 where
   row : IsRow rows (key.Prefix net pid prefix) value
 
 -- so does a row of more rows
-with_prefix_more : (net pid : Name) (first : Key × Value) (rows : Rows) → HasPrefix net pid rows → HasPrefix net pid (first ∷ rows)
+with_prefix_more : (net pid : Name) (first : Key × Value) (rows : Rows) → HasPrefix net pid rows
+    → HasPrefix net pid (first ∷ rows)
 with_prefix_more net pid first rows it =
-    record { prefix = it.prefix; value = it.value; row = record { front = first ∷ it.row.front; back = it.row.back; whole = ap (λ (more : Rows). first ∷ more) it.row.whole } }
+    record {
+      prefix = it.prefix;
+      value = it.value;
+      row = record {
+        front = first ∷ it.row.front;
+        back = it.row.back;
+        whole = ap (λ (more : Rows). first ∷ more) it.row.whole;
+      };
+    }
 
 -- what is listed has its row
-prefix_row : (net pid kind : Name) (rows : Rows) → is_empty (prefixes_of rows net pid kind) ≡ false → HasPrefix net pid rows
+prefix_row : (net pid kind : Name) (rows : Rows) → is_empty (prefixes_of rows net pid kind) ≡ false
+    → HasPrefix net pid rows
 prefix_row net pid kind [] some = cc
-prefix_row net pid kind ((key.Prefix of owner prefix, v) ∷ rows) some = by (same_name net of) (same_name pid owner) refl refl (prefix_row net pid kind rows)
+prefix_row net pid kind ((key.Prefix of owner prefix, v) ∷ rows) some =
+    by (same_name net of) (same_name pid owner) refl refl (prefix_row net pid kind rows)
   where
-    by : (a b : Bool) → same_name net of ≡ a → same_name pid owner ≡ b → (is_empty (prefixes_of rows net pid kind) ≡ false → HasPrefix net pid rows)
+    by : (a b : Bool) → same_name net of ≡ a → same_name pid owner ≡ b
+        → (is_empty (prefixes_of rows net pid kind) ≡ false → HasPrefix net pid rows)
         → HasPrefix net pid ((key.Prefix of owner prefix, v) ∷ rows)
     by true true e f below =
-        rw (same_text net of (sym e), same_text pid owner (sym f)) record { prefix = prefix; value = v; row = record { front = []; back = rows; whole = refl } }
+        rw (same_text net of (sym e), same_text pid owner (sym f)) record {
+          prefix = prefix;
+          value = v;
+          row = record { front = []; back = rows; whole = refl };
+        }
     by true false e f below = with_prefix_more net pid (key.Prefix of owner prefix, v) rows (below (rw (e, f) at some))
     by false b e f below = with_prefix_more net pid (key.Prefix of owner prefix, v) rows (below (rw e at some))
 prefix_row net pid kind (first ∷ rows) some = with_prefix_more net pid first rows (prefix_row net pid kind rows some)
 
 -- in good rows the PID of a prefix that is listed stands
-pub listed_stands : (net pid kind : Name) (rows : Rows) → AreGood rows → is_empty (prefixes_of rows net pid kind) ≡ false
+pub listed_stands : (net pid kind : Name) (rows : Rows) → AreGood rows
+    → is_empty (prefixes_of rows net pid kind) ≡ false
     → list_any (same_name pid) (pids_of rows net) ≡ true
 listed_stands net pid kind rows good some =
     let it = prefix_row net pid kind rows some in
     let at = key.Prefix net pid it.prefix in
     let is : value_of rows at ≡ Some it.value = value_of_row rows at it.value good.sorted it.row in
     stands_where net pid rows
-    ∙ (recursion_from_All (λ (need : Key). has_row rows need ≡ true) (needs at it.value) (good.declared at it.value is)).1.0
+    ∙ (recursion_from_All (λ (need : Key). has_row rows need ≡ true) (needs at it.value)
+    (good.declared at it.value is)).1.0

@@ -33,7 +33,8 @@ filtered_face ask face =
 abbrev pub asked_group : Rows → Name → List Family → Name → Data
 asked_group rows net families pid =
     object_of
-    (map (λ kind. (kind, (net_face net rows).value pid kind)) (filter (is_asked families) ((net_face net rows).members pid)))
+    (map (λ kind. (kind, (net_face net rows).value pid kind))
+    (filter (is_asked families) ((net_face net rows).members pid)))
 
 -- the filtered network map
 abbrev pub filtered_network : Rows → Name → NetAskData → Data

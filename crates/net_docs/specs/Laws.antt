@@ -20,9 +20,11 @@ MapIsOfItsKeys = (rows others : Rows) (net : Name) → AreSorted rows → AreSor
 
 -- the maps of rows that differ by keys alone differ at the places of these keys alone
 abbrev pub MapsDifferAtPlaces : Type 0
-MapsDifferAtPlaces = (net : Name) (before later : Rows) (keys : List Key) → DifferBy keys before later (resource.Net net)
+MapsDifferAtPlaces = (net : Name) (before later : Rows) (keys : List Key)
+    → DifferBy keys before later (resource.Net net)
     → DifferAt net_shape (map (net_place net) keys) (net_face net before) (net_face net later)
 
 -- a key that doesn't touch a network map touches no place of it
 abbrev pub OtherKeysTouchNowhere : Type 0
-OtherKeysTouchNowhere = (net : Name) (at : Key) → touches (resource.Net net) at ≡ false → net_place net at ≡ place.Nowhere
+OtherKeysTouchNowhere = (net : Name) (at : Key) → touches (resource.Net net) at ≡ false
+    → net_place net at ≡ place.Nowhere

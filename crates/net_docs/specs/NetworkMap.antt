@@ -35,7 +35,8 @@ family (addr.V6 number) = codes "ipv6"
 -- the text of the prefix of this family that a row gives this PID
 abbrev pub prefix_listed : Name → Name → Name → Key × Value → Option Data
 prefix_listed net pid kind (key.Prefix of owner prefix, v) =
-    if same_name net of && same_name pid owner && same_name kind (family prefix.addr) then Some (string (prefix_text prefix.addr prefix.len)) else None
+    if same_name net of && same_name pid owner && same_name kind (family prefix.addr)
+    then Some (string (prefix_text prefix.addr prefix.len)) else None
 prefix_listed net pid kind _ = None
 
 -- the prefixes of this family that a PID has, by address and length
@@ -82,6 +83,7 @@ network_map rows net = document net_shape (net_face net rows)
 -- the place of a network's map that a key touches: a PID's group, the prefixes of a family in it, and the tag
 abbrev pub net_place : Name → Key → Place
 net_place net (key.Pid of pid) = if same_name net of then place.Group pid else place.Nowhere
-net_place net (key.Prefix of pid prefix) = if same_name net of then place.Member pid (family prefix.addr) else place.Nowhere
+net_place net (key.Prefix of pid prefix) =
+    if same_name net of then place.Member pid (family prefix.addr) else place.Nowhere
 net_place net (key.Seq (resource.Net of)) = if same_name net of then place.Meta else place.Nowhere
 net_place net _ = place.Nowhere

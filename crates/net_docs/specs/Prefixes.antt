@@ -26,7 +26,8 @@ prefix_in _ = None
 
 -- the prefix that a row gives this PID of a network
 abbrev pub prefix_owned : Name → Name → Key × Value → Option Prefix
-prefix_owned net pid (key.Prefix of owner prefix, v) = if same_name net of && same_name pid owner then Some prefix else None
+prefix_owned net pid (key.Prefix of owner prefix, v) =
+    if same_name net of && same_name pid owner then Some prefix else None
 prefix_owned net pid _ = None
 
 -- the prefixes of a PID, by address and length
@@ -35,7 +36,8 @@ prefixes_owned rows net pid = filter_map (prefix_owned net pid) rows
 
 -- the text of a prefix of this family
 abbrev pub text_in_family : Name → Prefix → Option Data
-text_in_family kind prefix = if same_name kind (family prefix.addr) then Some (string (prefix_text prefix.addr prefix.len)) else None
+text_in_family kind prefix =
+    if same_name kind (family prefix.addr) then Some (string (prefix_text prefix.addr prefix.len)) else None
 
 -- the texts of those of the prefixes that are of this family
 abbrev pub texts_in_family : Name → List Prefix → List Data
@@ -51,7 +53,8 @@ group_of prefixes =
 -- members with the texts of this family, where there are any
 abbrev pub with_texts : Name → List Prefix → Members → Members
 with_texts kind prefixes members =
-    if is_empty (texts_in_family kind prefixes) then members else with_member kind (array_of (texts_in_family kind prefixes)) members
+    if is_empty (texts_in_family kind prefixes) then members
+    else with_member kind (array_of (texts_in_family kind prefixes)) members
 
 -- texts as one value, where there are any
 abbrev pub listed : List Data → Option Data

@@ -28,5 +28,6 @@ pub record AddsFamily (kind : Name) (prefixes : List Prefix) (old new : Written)
 
 -- the texts of a family in an array that was begun and isn't ended yet
 pub record AddsTexts (kind : Name) (prefixes : List Prefix) (old new : Written) : Type 0 where
-  pub tokens : new.tokens ++ end_array ∷ [] ≡ old.tokens ++ items_tokens (items_outline (items_of (texts_in_family kind prefixes)))
+  pub tokens : new.tokens ++ end_array ∷ []
+      ≡ old.tokens ++ items_tokens (items_outline (items_of (texts_in_family kind prefixes)))
   pub before : new.before ≡ old.before

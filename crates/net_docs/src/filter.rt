@@ -75,7 +75,8 @@ fn all_groups<R: RowStore>(
     families: &[Family],
 ) -> Result<Tree, AllocError>
     ensures { IfOk result (λ tree. data_of tree
-        ≡ object_of (map (λ pid. (pid, asked_group (R.rows rows.now) net.now families.now pid)) (pids_of (R.rows rows.now) net.now))) }
+        ≡ object_of (map (λ pid. (pid, asked_group (R.rows rows.now) net.now families.now pid))
+        (pids_of (R.rows rows.now) net.now))) }
 {
     let mut groups = Members::new(alloc);
     for row in rows_in(rows, Span::Pids(net.clone()?)) {
@@ -141,7 +142,8 @@ fn put_asked(
     kind: &str,
 ) -> Result<(), AllocError>
     ensures { OnOk result (members_data group.new
-        ≡ (if is_asked families.now kind.now then with_texts kind.now prefixes.now (members_data group.old) else members_data group.old)) }
+        ≡ (if is_asked families.now kind.now then with_texts kind.now prefixes.now (members_data group.old)
+        else members_data group.old)) }
 {
     if is_asked(families, kind) {
         put_texts(alloc, group, prefixes, kind)?;

@@ -17,7 +17,8 @@ use Rattle.path_docs.specs.PathCosts.{anes_of, dsts_shown, path_tag, srcs_shown}
 abbrev pub anes_shown : Rows → Name → PathAsk → List Name
 anes_shown rows net ask =
     set_of
-    (flat_map (λ src. flat_map (λ dst. anes_of rows net src dst) (dsts_shown rows net ask src)) (srcs_shown rows net ask))
+    (flat_map (λ src. flat_map (λ dst. anes_of rows net src dst) (dsts_shown rows net ask src))
+    (srcs_shown rows net ask))
 
 -- the entity that an ANE is (section 6.2.2), of the map that the second part is itself
 abbrev pub ane_entity : Name → Name

@@ -17,32 +17,39 @@ returns-then-group-eq0 t c =
     of_more HeadGroups c.args.more c.args.text.now _ _ (omega arith) refl
     (head_none (c.args.more - 1) c.args.text.now c.last_octets_front-octets.result
     (subst (λ n. IsTokenFront IsGroup c.args.text.now n) c.if-group-eq0.true c.group_front-group.ensures)
-    (λ e. c.last_octets_front-octets.ensures.last (omega arith)) (λ other. c.last_octets_front-octets.ensures.none (λ e. other (omega arith))))
+    (λ e. c.last_octets_front-octets.ensures.last (omega arith))
+    (λ other. c.last_octets_front-octets.ensures.none (λ e. other (omega arith))))
 
 pub returns-in_default : goal.returns-in_default
 returns-in_default t c =
-    let size : max c.group_front-group.result c.last_octets_front-octets.result ≡ c.max.result = omega (arith, c.max.ensures) in
+    let size : max c.group_front-group.result c.last_octets_front-octets.result ≡ c.max.result =
+    omega (arith, c.max.ensures) in
     of_more HeadGroups c.args.more c.args.text.now _ _ (omega arith) size
     (head_stop (c.args.more - 1) c.args.text.now c.group_front-group.result c.last_octets_front-octets.result
     (omega arith) c.group_front-group.ensures c.in_default.ensures
-    (λ e. c.last_octets_front-octets.ensures.last (omega arith)) (λ other. c.last_octets_front-octets.ensures.none (λ e. other (omega arith))))
+    (λ e. c.last_octets_front-octets.ensures.last (omega arith))
+    (λ other. c.last_octets_front-octets.ensures.none (λ e. other (omega arith))))
 
 pub returns-in-Some-behind : goal.returns-in-Some-behind
 returns-in-Some-behind t c =
-    let size : max (c.group_front-group.result + suc (suc c.tail_up_to_front.result)) c.last_octets_front-octets.result ≡ c.max-in-Some-behind.result =
+    let size : max (c.group_front-group.result + suc (suc c.tail_up_to_front.result)) c.last_octets_front-octets.result
+    ≡ c.max-in-Some-behind.result =
     omega (arith, c.max-in-Some-behind.ensures) in
     of_more HeadGroups c.args.more c.args.text.now _ _ (omega arith) size
     (head_elided (c.args.more - 1) c.args.text.now c.in-Some.rest.now c.in-Some-behind.tail.now
     c.group_front-group.result c.tail_up_to_front.result c.last_octets_front-octets.result
     (omega arith) c.group_front-group.ensures c.in-Some.ensures c.in-Some-behind.ensures c.tail_up_to_front.ensures
-    (λ e. c.last_octets_front-octets.ensures.last (omega arith)) (λ other. c.last_octets_front-octets.ensures.none (λ e. other (omega arith))))
+    (λ e. c.last_octets_front-octets.ensures.last (omega arith))
+    (λ other. c.last_octets_front-octets.ensures.none (λ e. other (omega arith))))
 
 pub returns-in-None : goal.returns-in-None
 returns-in-None t c =
-    let size : max (c.group_front-group.result + suc c.head_front.result) c.last_octets_front-octets.result ≡ c.max-in-None.result =
+    let size : max (c.group_front-group.result + suc c.head_front.result) c.last_octets_front-octets.result
+    ≡ c.max-in-None.result =
     omega (arith, c.max-in-None.ensures) in
     of_more HeadGroups c.args.more c.args.text.now _ _ (omega arith) size
     (head_on (c.args.more - 1) c.args.text.now c.in-Some.rest.now
     c.group_front-group.result c.head_front.result c.last_octets_front-octets.result
     (omega arith) c.group_front-group.ensures c.in-Some.ensures c.in-None.ensures c.head_front.ensures
-    (λ e. c.last_octets_front-octets.ensures.last (omega arith)) (λ other. c.last_octets_front-octets.ensures.none (λ e. other (omega arith))))
+    (λ e. c.last_octets_front-octets.ensures.last (omega arith))
+    (λ other. c.last_octets_front-octets.ensures.none (λ e. other (omega arith))))

@@ -14,7 +14,8 @@ returns-then-more-eq0 t c =
 
 pub returns-then-octet-eq0 : goal.returns-then-octet-eq0
 returns-then-octet-eq0 t c =
-    octets_none c.args.more c.args.text.now (subst (λ n. IsTokenFront IsOctet c.args.text.now n) c.if-octet-eq0.true c.octet_front-octet.ensures)
+    octets_none c.args.more c.args.text.now (subst (λ n. IsTokenFront IsOctet c.args.text.now n) c.if-octet-eq0.true
+    c.octet_front-octet.ensures)
 
 pub returns-in-Some : goal.returns-in-Some
 returns-in-Some t c =

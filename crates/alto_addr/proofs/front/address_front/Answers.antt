@@ -8,4 +8,5 @@ pub returns : goal.returns
 returns c =
     let size : max c.colon_hex_front.result c.octets_front.result ≡ c.max.result = omega (arith, c.max.ensures) in
     same_front Address c.args.text.now _ _ size
-    (either_family c.args.text.now c.colon_hex_front.result c.octets_front.result c.colon_hex_front.ensures c.octets_front.ensures)
+    (either_family c.args.text.now c.colon_hex_front.result c.octets_front.result c.colon_hex_front.ensures
+    c.octets_front.ensures)

@@ -8,5 +8,7 @@ returns-then-is_decimal-clause-ok c =
     value_is c.args.digits.now c.value.result (sym c.is_decimal.ensures ∙ c.if-is_decimal.true) c.value.ensures
 
 pub returns-else-is_decimal-clause-err : goal.returns-else-is_decimal-clause-err
-returns-else-is_decimal-clause-err c =
-    (decimal_refused 1000 (lit≤ tt) (lit≤ tt) c.args.digits.now (sym c.is_decimal.ensures ∙ c.if-is_decimal.false), c.length_text_front.ensures)
+returns-else-is_decimal-clause-err c = (
+  decimal_refused 1000 (lit≤ tt) (lit≤ tt) c.args.digits.now (sym c.is_decimal.ensures ∙ c.if-is_decimal.false),
+  c.length_text_front.ensures,
+)

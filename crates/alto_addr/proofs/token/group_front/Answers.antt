@@ -7,7 +7,8 @@ use Rattle.alto_addr.proofs.token.group_front.Goals as goal
 
 pub returns-then-not-is_group : goal.returns-then-not-is_group
 returns-then-not-is_group c =
-    let e : group_test (take (c.loop-n.n + 1) c.args.text.now) ≡ false = sym c.is_group.ensures ∙ c.if-not-is_group.true in
+    let e : group_test (take (c.loop-n.n + 1) c.args.text.now) ≡ false = sym c.is_group.ensures
+    ∙ c.if-not-is_group.true in
     IsTokenFront-stop IsGroup IsToken-IsGroup c.args.text.now c.loop-n.n (omega arith) c.loop-n.invariant
     (λ less. group_refused (take (suc c.loop-n.n) c.args.text.now) (rw add-one at e))
 

@@ -7,4 +7,5 @@ use Rattle.alto_asks.proofs.asks.texts_of.Given as goal
 abbrev pub invariant-loop-item : goal.invariant-loop-item
 invariant-loop-item l =
     texts_of l.field (items_data l.items)
-    ≡ texts_of l.field (items_data (drop l.item-index l.items)) >>= λ more. Ok (map (λ text. text.now) l.texts.items ++ more)
+    ≡ texts_of l.field (items_data (drop l.item-index l.items)) >>= λ more.
+    Ok (map (λ text. text.now) l.texts.items ++ more)

@@ -7,4 +7,6 @@ use Rattle.alto_maps.proofs.merge.members_change.Given as goal
 
 abbrev pub invariant-loop-member : goal.invariant-loop-member
 invariant-loop-member g l =
-    members_data l.changes ≡ members_of (map (λ m. (m, unwrap_or (member_in (g.M.MapSource.face l.after) l.group m) null)) (take l.member-index l.members))
+    members_data l.changes ≡ members_of
+    (map (λ m. (m, unwrap_or (member_in (g.M.MapSource.face l.after) l.group m) null))
+    (take l.member-index l.members))

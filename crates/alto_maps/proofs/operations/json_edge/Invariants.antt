@@ -9,4 +9,5 @@ invariant-loop-touched g l =
     operations_of l.ops.items
     ≡ on_meta g.M.MapSource.shape (g.M.MapSource.face l.after) l.places
     ++ map (under g.M.MapSource.shape.section)
-    (flat_map (λ t. on_touched (g.M.MapSource.face l.before) (g.M.MapSource.face l.after) t.0 t.1) (take l.touched-index l.touched-items))
+    (flat_map (λ t. on_touched (g.M.MapSource.face l.before) (g.M.MapSource.face l.after) t.0 t.1)
+    (take l.touched-index l.touched-items))

@@ -8,4 +8,5 @@ invariant-loop-member g l =
     operations_of l.ops.items
     ≡ operations_of l.initial.ops.items
     ++ map (under g.M.MapSource.shape.section)
-    (map (under l.touched.0) (on_members (g.M.MapSource.face l.before) (g.M.MapSource.face l.after) l.touched.0 (take l.member-index l.touched.1)))
+    (map (under l.touched.0) (on_members (g.M.MapSource.face l.before) (g.M.MapSource.face l.after)
+    l.touched.0 (take l.member-index l.touched.1)))

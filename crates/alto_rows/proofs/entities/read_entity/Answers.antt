@@ -10,6 +10,7 @@ returns-in-Some c =
 pub returns-in-None : goal.returns-in-None
 returns-in-None c =
     IfOk-weaker c.read_pid.result _ _
-    (λ found is. entity_named c.args.net.now c.as_bytes-name.result.now c.args.text.now c.as_bytes-name.ensures.bytes c.as_bytes-name.ensures.read_again
+    (λ found is. entity_named c.args.net.now c.as_bytes-name.result.now c.args.text.now c.as_bytes-name.ensures.bytes
+    c.as_bytes-name.ensures.read_again
     c.in-None.ensures found is)
     c.read_pid.ensures

@@ -7,7 +7,8 @@ pub returns-in-Some : goal.returns-in-Some
 returns-in-Some g c =
     let reads = rw c.in-Some.is at c.in_ok-of.ensures in
     IfOk-weaker c.if_declared.result _ _
-    (λ found e. e ∙ names_if_declared (g.R.RowStore.rows c.args.rows.now) c.args.text.now c.in-Some.of c.requires reads) c.if_declared.ensures
+    (λ found e. e ∙ names_if_declared (g.R.RowStore.rows c.args.rows.now) c.args.text.now c.in-Some.of c.requires reads)
+    c.if_declared.ensures
 
 pub returns-in-None : goal.returns-in-None
 returns-in-None g c =

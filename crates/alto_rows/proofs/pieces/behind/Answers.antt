@@ -3,4 +3,5 @@ use Rattle.std.specs.Cmp.{unsigned_Decides}
 use Rattle.alto_rows.proofs.pieces.behind.Goals as goal
 
 pub returns : goal.returns
-returns c = strip_prefix_is unsigned_Decides c.args.text.now c.args.prefix.now c.strip_prefix.result c.strip_prefix.ensures.cases
+returns c = strip_prefix_is unsigned_Decides c.args.text.now c.args.prefix.now c.strip_prefix.result
+    c.strip_prefix.ensures.cases

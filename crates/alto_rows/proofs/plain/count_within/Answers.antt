@@ -15,7 +15,10 @@ returns c =
     let rows = c.args.rows.now in
     let span = c.args.span.now in
     let tail = c.tail_in.result.now in
-    let sorted : AreSorted tail = rw c.tail_in.ensures (sorted_tail_rows rows (rows_from_span rows span) c.requires (rows_from_span_tail rows span c.requires)) in
-    count_from_span rows span c.partition_point.result c.requires (rw (← c.tail_in.ensures) c.partition_point.ensures.bound)
+    let sorted : AreSorted tail = rw c.tail_in.ensures (sorted_tail_rows rows (rows_from_span rows span)
+    c.requires (rows_from_span_tail rows span c.requires)) in
+    count_from_span rows span c.partition_point.result
+    c.requires (rw (← c.tail_in.ensures) c.partition_point.ensures.bound)
     (rw (← c.tail_in.ensures)
-    (IsPartitionPoint-from_clause (λ row. not (is_lt (span_cmp span row.0))) tail c.partition_point.result c.partition_point.ensures.partitioned (span_reaches tail span sorted) (λ a r f k. search rules)))
+    (IsPartitionPoint-from_clause (λ row. not (is_lt (span_cmp span row.0))) tail c.partition_point.result
+    c.partition_point.ensures.partitioned (span_reaches tail span sorted) (λ a r f k. search rules)))

@@ -18,7 +18,8 @@ loop-write-preserved c =
     let more : take (c.loop-write.write-index + 1) c.args.writes.now ≡ done ++ write ∷ [] =
     rw (take_more c.args.writes.now c.loop-write.write-index write c.loop-write-test.true, ← c.write-item.is) refl in
     record {
-      has = rw more (last_more done write c.loop-write.last c.in_ok-last.last c.loop-write.invariant.has c.in_ok-last.ensures.updates);
+      has = rw more (last_more done write c.loop-write.last c.in_ok-last.last c.loop-write.invariant.has
+          c.in_ok-last.ensures.updates);
       ordered = c.in_ok-last.ensures.ordered;
     }
 

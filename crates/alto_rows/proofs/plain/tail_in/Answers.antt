@@ -13,4 +13,5 @@ returns c =
     let span = c.args.span.now in
     take_rest rows c.partition_point-at.result
     ∙ drop_at_span rows span c.partition_point-at.result c.partition_point-at.ensures.bound
-    (IsPartitionPoint-from_clause (λ row. is_gt (span_cmp span row.0)) rows c.partition_point-at.result c.partition_point-at.ensures.partitioned (span_partitioned rows span c.requires) (λ a r f k. search rules))
+    (IsPartitionPoint-from_clause (λ row. is_gt (span_cmp span row.0)) rows c.partition_point-at.result
+    c.partition_point-at.ensures.partitioned (span_partitioned rows span c.requires) (λ a r f k. search rules))

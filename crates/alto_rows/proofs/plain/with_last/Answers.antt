@@ -10,8 +10,10 @@ use Rattle.alto_rows.proofs.plain.with_last.Goals as goal
 
 pub returns-clause-updates : goal.returns-clause-updates
 returns-clause-updates c =
-    subst (λ (copy : Key × Option Value). map.Updates key_cmp c.args.last c.insert.new.self copy.0 (Some copy.1)) c.in_ok-key.ensures
-    (by_key_cmp (λ R. map.Updates R c.args.last c.insert.new.self c.in_ok-key.key (Some c.in_ok-key.value)) c.in_ok-insert.ensures.updates)
+    subst (λ (copy : Key × Option Value). map.Updates key_cmp c.args.last c.insert.new.self copy.0 (Some copy.1))
+    c.in_ok-key.ensures
+    (by_key_cmp (λ R. map.Updates R c.args.last c.insert.new.self c.in_ok-key.key (Some c.in_ok-key.value))
+    c.in_ok-insert.ensures.updates)
 
 pub returns-clause-ordered : goal.returns-clause-ordered
 returns-clause-ordered c = by_key_cmp (λ R. map.IsOrdered R c.insert.new.self) c.insert.ensures.ordered

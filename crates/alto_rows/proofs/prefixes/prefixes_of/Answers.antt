@@ -8,5 +8,6 @@ loop-row-init g c =
     let net = c.args.net.now in
     let rows = g.R.RowStore.rows c.args.rows.now in
     let walk : c.into_iter-row-iterator.result ≡ rows_in rows (span.Prefixes net) =
-    c.into_iter-row-iterator.ensures.into_iter_gives ∙ (c.rows_in-row-items.ensures ∙ ap (λ of. rows_in rows (span.Prefixes of)) c.in_ok-clone.ensures.cases) in
+    c.into_iter-row-iterator.ensures.into_iter_gives
+    ∙ (c.rows_in-row-items.ensures ∙ ap (λ of. rows_in rows (span.Prefixes of)) c.in_ok-clone.ensures.cases) in
     rw (c.new-prefixes.ensures.items, walk) refl

@@ -8,10 +8,12 @@ pub invariant_of-result : goal.invariant_of-result
 invariant_of-result g c =
     let rows = g.R.RowStore.rows c.args.store.now in
     let key = c.args.key.now in
-    walking_in_run rows (rows_from rows key) c.run_from.result.now c.run_from.ensures.sorted (rows_from_tail rows key c.run_from.ensures.sorted) c.run_from.ensures.run
+    walking_in_run rows (rows_from rows key) c.run_from.result.now c.run_from.ensures.sorted
+    (rows_from_tail rows key c.run_from.ensures.sorted) c.run_from.ensures.run
 
 pub returns : goal.returns
 returns g c =
     let rows = g.R.RowStore.rows c.args.store.now in
     let key = c.args.key.now in
-    left_in_run rows (rows_from rows key) c.run_from.result.now c.run_from.ensures.sorted (rows_from_tail rows key c.run_from.ensures.sorted) c.run_from.ensures.run
+    left_in_run rows (rows_from rows key) c.run_from.result.now c.run_from.ensures.sorted
+    (rows_from_tail rows key c.run_from.ensures.sorted) c.run_from.ensures.run

@@ -8,10 +8,12 @@ pub invariant_of-result : goal.invariant_of-result
 invariant_of-result g c =
     let rows = g.R.RowStore.rows c.args.store.now in
     let span = c.args.span.now in
-    walking_in_run rows (rows_from_span rows span) c.run_in.result.now c.run_in.ensures.sorted (rows_from_span_tail rows span c.run_in.ensures.sorted) c.run_in.ensures.run
+    walking_in_run rows (rows_from_span rows span) c.run_in.result.now c.run_in.ensures.sorted
+    (rows_from_span_tail rows span c.run_in.ensures.sorted) c.run_in.ensures.run
 
 pub returns-clause-rows : goal.returns-clause-rows
 returns-clause-rows g c =
     let rows = g.R.RowStore.rows c.args.store.now in
     let span = c.args.span.now in
-    left_in_run rows (rows_from_span rows span) c.run_in.result.now c.run_in.ensures.sorted (rows_from_span_tail rows span c.run_in.ensures.sorted) c.run_in.ensures.run
+    left_in_run rows (rows_from_span rows span) c.run_in.result.now c.run_in.ensures.sorted
+    (rows_from_span_tail rows span c.run_in.ensures.sorted) c.run_in.ensures.run

@@ -14,4 +14,5 @@ invariant_of-result g c =
     })
 
 pub returns : goal.returns
-returns g c = rw c.walk_from_span-walk.ensures.rows (rows_in-rows_from_span (g.R.RowStore.rows c.args.store.now) c.args.span)
+returns g c = rw c.walk_from_span-walk.ensures.rows
+    (rows_in-rows_from_span (g.R.RowStore.rows c.args.store.now) c.args.span)

@@ -6,4 +6,5 @@ use Rattle.alto_rules.proofs.index.with_part.Goals as goal
 pub returns-in-Some : goal.returns-in-Some
 returns-in-Some c =
     IfOk-weaker c.with_resource.result _ _
-    (λ all more of. rw (← c.in_ok-part.ensures, c.in-Some.is) (part_added c.args.parts all c.in-Some.part of more)) c.with_resource.ensures
+    (λ all more of. rw (← c.in_ok-part.ensures, c.in-Some.is) (part_added c.args.parts all c.in-Some.part of more))
+    c.with_resource.ensures

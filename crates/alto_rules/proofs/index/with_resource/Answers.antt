@@ -5,4 +5,5 @@ use Rattle.alto_rules.proofs.Orders.{by_resource_cmp}
 use Rattle.alto_rules.proofs.index.with_resource.Goals as goal
 
 pub returns : goal.returns
-returns c = by_resource_cmp (λ R. set.Updates R c.args.all c.insert.new.self c.args.more true) c.in_ok-insert.ensures.updates
+returns c = by_resource_cmp (λ R. set.Updates R c.args.all c.insert.new.self c.args.more true)
+    c.in_ok-insert.ensures.updates

@@ -5,4 +5,5 @@ use Rattle.alto_rules.proofs.Orders.{by_place_cmp}
 use Rattle.alto_rules.proofs.owners.is_kept.Goals as goal
 
 pub returns : goal.returns
-returns c = by_place_cmp (λ R. c.contains_key.result ≡ is_some (map.get R c.args.of.now c.args.place.now)) c.contains_key.ensures
+returns c = by_place_cmp (λ R. c.contains_key.result ≡ is_some (map.get R c.args.of.now c.args.place.now))
+    c.contains_key.ensures

@@ -1,7 +1,7 @@
 -- The map gains the owner where it has none.
 use Rattle.std.proofs.lemmas.Result.{IfOk-weaker}
 use Rattle.std.proofs.Common.{sym, ◌∙◌}
-use Rattle.alto_rules.proofs.OwnerLemmas.{filled_kept, filled_one}
+use Rattle.alto_rules.proofs.FillingLemmas.{filled_kept, filled_one}
 use Rattle.alto_rules.proofs.owners.with_one.Goals as goal
 
 pub returns-then-is_kept : goal.returns-then-is_kept
@@ -10,4 +10,5 @@ returns-then-is_kept c = filled_kept c.args.of c.args.place c.args.owner (sym c.
 pub returns-else-is_kept : goal.returns-else-is_kept
 returns-else-is_kept c =
     IfOk-weaker c.with_owner.result _ _
-    (λ all put. filled_one c.args.of all c.args.place c.args.owner (sym c.is_kept.ensures ∙ c.if-is_kept.false) put) c.with_owner.ensures
+    (λ all put. filled_one c.args.of all c.args.place c.args.owner (sym c.is_kept.ensures ∙ c.if-is_kept.false) put)
+    c.with_owner.ensures

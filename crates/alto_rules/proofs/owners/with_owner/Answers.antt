@@ -5,4 +5,5 @@ use Rattle.alto_rules.proofs.Orders.{by_place_cmp}
 use Rattle.alto_rules.proofs.owners.with_owner.Goals as goal
 
 pub returns : goal.returns
-returns c = by_place_cmp (λ R. map.Updates R c.args.of c.insert.new.self c.args.place (Some c.args.owner)) c.in_ok-insert.ensures.updates
+returns c = by_place_cmp (λ R. map.Updates R c.args.of c.insert.new.self c.args.place (Some c.args.owner))
+    c.in_ok-insert.ensures.updates

@@ -11,4 +11,5 @@ use Rattle.alto_rules.proofs.versions.all_dependents.Given as goal
 abbrev pub invariant-loop-of : goal.invariant-loop-of
 invariant-loop-of g l = (one : Resource)
     → (contains resource_cmp l.all one || is_among one (flat_map (dependents (g.R.RowStore.rows l.rows)) l.of-iterator))
-    ≡ (contains resource_cmp l.initial.all one || is_among one (flat_map (dependents (g.R.RowStore.rows l.rows)) l.initial.of-iterator))
+    ≡ (contains resource_cmp l.initial.all one
+    || is_among one (flat_map (dependents (g.R.RowStore.rows l.rows)) l.initial.of-iterator))

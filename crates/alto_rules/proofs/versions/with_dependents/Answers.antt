@@ -17,13 +17,16 @@ alone : (rows : Rows) (of : Resource) → ((net : List ℕ) → of ≡ resource.
 alone rows (resource.Net net) other = absurd (other net refl)
 alone rows _ other = refl
 
-joined : (rows : Rows) (of copy : Resource) (touched all : BTreeSet Resource) → ((net : List ℕ) → of ≡ resource.Net net → ⊥) → copy ≡ of
+joined : (rows : Rows) (of copy : Resource) (touched all : BTreeSet Resource)
+    → ((net : List ℕ) → of ≡ resource.Net net → ⊥) → copy ≡ of
     → set.Updates resource_cmp touched all copy true → HasJoined touched (dependents rows of) all
 joined rows of copy touched all other same more one =
-    rw (alone rows of other, ← same) (sym (or_false (contains resource_cmp all one)) ∙ moved touched all copy one false more)
+    rw (alone rows of other, ← same) (sym (or_false (contains resource_cmp all one))
+    ∙ moved touched all copy one false more)
 
 pub returns-in_ok-copied_resource-in_default : goal.returns-in_ok-copied_resource-in_default
 returns-in_ok-copied_resource-in_default g c =
     IfOk-weaker c.with_resource.result _ _
-    (λ all more. joined (g.R.RowStore.rows c.args.rows.now) c.args.of.now c.in_ok-copied_resource-in_default.field-0 c.args.touched all c.in_default.not-Net c.in_ok-copied_resource-in_default.ensures more)
+    (λ all more. joined (g.R.RowStore.rows c.args.rows.now) c.args.of.now c.in_ok-copied_resource-in_default.field-0
+    c.args.touched all c.in_default.not-Net c.in_ok-copied_resource-in_default.ensures more)
     c.with_resource.ensures

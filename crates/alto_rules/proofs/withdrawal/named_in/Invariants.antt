@@ -7,4 +7,5 @@ use Rattle.alto_rules.proofs.withdrawal.named_in.Given as goal
 
 abbrev pub invariant-loop-row : goal.invariant-loop-row
 invariant-loop-row g l =
-    l.keys.items ++ filter (names_key l.declared) (keys_of l.row-iterator) ≡ named_in (g.R.RowStore.rows l.rows) l.fn.span l.declared
+    l.keys.items ++ filter (names_key l.declared) (keys_of l.row-iterator)
+    ≡ named_in (g.R.RowStore.rows l.rows) l.fn.span l.declared

@@ -10,4 +10,5 @@ use Rattle.alto_rules.proofs.withdrawal.with_key.Goals as goal
 pub returns : goal.returns
 returns c =
     subst (λ (q : Key). set.Updates key_cmp c.args.keys c.insert.new.self q true) c.in_ok-copied.ensures
-    (by_key_cmp (λ R. set.Updates R c.args.keys c.insert.new.self c.in_ok-copied.field-0 true) c.in_ok-insert.ensures.updates)
+    (by_key_cmp (λ R. set.Updates R c.args.keys c.insert.new.self c.in_ok-copied.field-0 true)
+    c.in_ok-insert.ensures.updates)

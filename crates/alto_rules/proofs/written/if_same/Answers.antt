@@ -9,4 +9,5 @@ use Rattle.alto_rules.proofs.written.if_same.Goals as goal
 pub returns-then-is_eq : goal.returns-then-is_eq
 returns-then-is_eq c =
     one_key c.args.at.now c.args.key.now
-    (by_key_cmp (λ R. is_eq (R c.args.at.now c.args.key.now) ≡ true) (ap is_eq (sym c.cmp.ensures) ∙ (sym c.is_eq.ensures ∙ c.if-is_eq.true)))
+    (by_key_cmp (λ R. is_eq (R c.args.at.now c.args.key.now) ≡ true) (ap is_eq (sym c.cmp.ensures)
+    ∙ (sym c.is_eq.ensures ∙ c.if-is_eq.true)))

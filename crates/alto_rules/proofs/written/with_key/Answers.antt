@@ -10,7 +10,8 @@ use Rattle.alto_rules.proofs.written.with_key.Goals as goal
 pub returns-clause-all : goal.returns-clause-all
 returns-clause-all c =
     subst (λ (q : Key). map.Updates key_cmp c.args.written c.insert.new.self q (Some c.args.has)) c.in_ok-copied.ensures
-    (by_key_cmp (λ R. map.Updates R c.args.written c.insert.new.self c.in_ok-copied.field-0 (Some c.args.has)) c.in_ok-old.ensures.updates)
+    (by_key_cmp (λ R. map.Updates R c.args.written c.insert.new.self c.in_ok-copied.field-0 (Some c.args.has))
+    c.in_ok-old.ensures.updates)
 
 pub returns-clause-old : goal.returns-clause-old
 returns-clause-old c =

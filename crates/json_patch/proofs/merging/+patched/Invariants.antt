@@ -8,6 +8,7 @@ use Rattle.json_patch.proofs.merging.+patched.Given as goal
 abbrev pub invariant-patch_members-loop-name : goal.invariant-patch_members-loop-name
 invariant-patch_members-loop-name l =
     record {
-      members : members_patched (entries_data l.name-iterator) (entries_data l.members.entries) ≡ members_patched (entries_data l.changes.entries) (entries_data l.initial.members.entries);
+      members : members_patched (entries_data l.name-iterator) (entries_data l.members.entries)
+          ≡ members_patched (entries_data l.changes.entries) (entries_data l.initial.members.entries);
       ordered : AreInOrder (entries_data l.members.entries);
     }

@@ -10,4 +10,5 @@ invariant-copy_items-loop-tree l = map data_of l.copies.items ≡ map data_of (t
 -- the same of the members
 abbrev pub invariant-copy_members-loop-name : goal.invariant-copy_members-loop-name
 invariant-copy_members-loop-name l =
-    (done : List Entry) × (l.members.entries ≡ done ++ l.name-iterator) × (entries_data l.copies.entries ≡ entries_data done)
+    (done : List Entry) × (l.members.entries ≡ done ++ l.name-iterator)
+    × (entries_data l.copies.entries ≡ entries_data done)

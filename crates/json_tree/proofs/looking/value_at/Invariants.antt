@@ -5,4 +5,5 @@ use Rattle.json_tree.proofs.looking.value_at.Given as goal
 
 -- the members that are left have the value that all have
 abbrev pub invariant-loop-key : goal.invariant-loop-key
-invariant-loop-key l = get_member l.name (entries_data l.key-iterator) ≡ get_member l.name (entries_data l.members.entries)
+invariant-loop-key l = get_member l.name (entries_data l.key-iterator)
+    ≡ get_member l.name (entries_data l.members.entries)

@@ -18,9 +18,11 @@ members_of-loop-name-preserved t c =
     let left = c.next.new.self in
     let step : l.name-iterator ≡ e ∷ left = c.in-Some.ensures.steps in
     let all : c.args.members.entries ≡ done ++ e ∷ left = l.invariant.moved.1 ∙ ap (λ es. done ++ es) step in
-    let last = put_last done e left (subst (λ es. IsStrictlySortedBy string_cmp (keys_of es)) all c.into_iter-name-iterator.ensures.into_iter_gives.5) in
+    let last = put_last done e left (subst (λ es. IsStrictlySortedBy string_cmp (keys_of es)) all
+    c.into_iter-name-iterator.ensures.into_iter_gives.5) in
     let here : is_whole (view e.1) ≡ true = c.in_ok-tree.ensures.ok.0 in
-    let put_in = entries_insert l.map.entries c.insert.new.self.entries c.new.result c.in_ok-tree.tree c.in_ok-insert.ensures.entries in
+    let put_in = entries_insert l.map.entries c.insert.new.self.entries c.new.result c.in_ok-tree.tree
+    c.in_ok-insert.ensures.entries in
     record {
       moved = (
         done ++ e ∷ [],

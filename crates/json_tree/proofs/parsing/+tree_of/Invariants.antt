@@ -19,6 +19,7 @@ invariant-list_of-loop-value l =
 abbrev pub invariant-members_of-loop-name : goal.invariant-members_of-loop-name
 invariant-members_of-loop-name l =
     record {
-      moved : (done : List Entry) × (l.fn.members.entries ≡ done ++ l.name-iterator) × (entries_data l.map.entries ≡ members_view done);
+      moved : (done : List Entry) × (l.fn.members.entries ≡ done ++ l.name-iterator)
+          × (entries_data l.map.entries ≡ members_view done);
       whole : members_are_whole (members_view l.name-iterator) ≡ members_are_whole (members_view l.fn.members.entries);
     }

@@ -23,5 +23,9 @@ pub returns-after-is_memory-clause-err : goal.returns-after-is_memory-clause-err
 returns-after-is_memory-clause-err c =
     elim c.if-is_memory.branch [
       | then-is_memory w ↦ λ other. absurd (other w.result-is)
-      | else-is_memory w ↦ λ other. (w.result-is, value_of_none c.args.bytes.now (c.in-Err.ensures.err (λ memory. true≢false (sym (c.is_memory.ensures.1 memory) ∙ w.if-is_memory.false))))
+      | else-is_memory w ↦ λ other. (
+        w.result-is,
+        value_of_none c.args.bytes.now
+            (c.in-Err.ensures.err (λ memory. true≢false (sym (c.is_memory.ensures.1 memory) ∙ w.if-is_memory.false))),
+      )
     ]

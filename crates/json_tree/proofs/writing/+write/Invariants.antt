@@ -15,7 +15,8 @@ invariant-write_items-loop-tree l =
     let left = items_data (drop l.tree-index l.tree-items) in
     record {
       before : l.out.before ≡ l.initial.out.before;
-      tokens : l.out.tokens ++ items_tokens (items_outline left) ≡ l.initial.out.tokens ++ items_tokens (items_outline all);
+      tokens : l.out.tokens ++ items_tokens (items_outline left) ≡ l.initial.out.tokens
+          ++ items_tokens (items_outline all);
       reads : of_items (items_outline left) ≡ Some left → of_items (items_outline all) ≡ Some all;
       whole : items_are_whole left ≡ items_are_whole all;
     }
@@ -27,7 +28,10 @@ invariant-write_members-loop-name l =
     let left = entries_data l.name-iterator in
     record {
       before : l.out.before ≡ l.initial.out.before;
-      tokens : l.out.tokens ++ members_tokens (members_outline left) ≡ l.initial.out.tokens ++ members_tokens (members_outline all);
-      reads : (done : List Entry) × (l.members.entries ≡ done ++ l.name-iterator) × (of_members (members_outline left) (entries_data done) ≡ Some all → of_members (members_outline all) no_members ≡ Some all);
+      tokens : l.out.tokens ++ members_tokens (members_outline left) ≡ l.initial.out.tokens
+          ++ members_tokens (members_outline all);
+      reads : (done : List Entry) × (l.members.entries ≡ done ++ l.name-iterator)
+          × (of_members (members_outline left) (entries_data done) ≡ Some all
+          → of_members (members_outline all) no_members ≡ Some all);
       whole : members_are_whole left ≡ members_are_whole all;
     }

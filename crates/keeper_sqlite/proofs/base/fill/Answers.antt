@@ -4,7 +4,7 @@ use Rattle.std.proofs.lemmas.Int.{to_z-of_z}
 use Rattle.sqlite.specs.Held.{state}
 use Rattle.sqlite.specs.State.{HasCleanDisk}
 use Rattle.alto_keeper.specs.Stored.{rebased}
-use Rattle.keeper_sqlite.proofs.StatementLemmas.{taken_out}
+use Rattle.keeper_sqlite.proofs.DeleteLemmas.{taken_out}
 use Rattle.keeper_sqlite.proofs.AddingLemmas.{on_ok_weaker}
 use Rattle.keeper_sqlite.proofs.base.fill.Goals as goal
 

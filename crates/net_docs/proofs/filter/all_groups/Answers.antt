@@ -14,6 +14,7 @@ loop-row-init g c =
     let net = c.args.net.now in
     let rows = g.R.RowStore.rows c.args.rows.now in
     let walk : filter_map pid_in c.into_iter-row-iterator.result ≡ pids_of rows net =
-    ap (filter_map pid_in) (c.into_iter-row-iterator.ensures.into_iter_gives ∙ (c.rows_in-row-items.ensures ∙ ap (λ of. rows_in rows (span.Pids of)) c.in_ok-clone.ensures.cases))
+    ap (filter_map pid_in) (c.into_iter-row-iterator.ensures.into_iter_gives
+    ∙ (c.rows_in-row-items.ensures ∙ ap (λ of. rows_in rows (span.Pids of)) c.in_ok-clone.ensures.cases))
     ∙ pids_in_span rows net in
     rw (c.new-groups.ensures, walk) (groups_of_all (asked_group rows net c.args.families.now) (pids_of rows net))

@@ -18,10 +18,12 @@ returns-in-All g c =
     IfOk-weaker c.all_groups.result _ _
     (λ tree is.
     is
-    ∙ (ap (λ families. object_of (map (λ pid. (pid, asked_group rows net families pid)) (pids_of rows net))) c.deref.ensures.value
+    ∙ (ap (λ families. object_of (map (λ pid. (pid, asked_group rows net families pid)) (pids_of rows net)))
+    c.deref.ensures.value
     ∙ (all_asked rows net c.ask.inside.families.items
     ∙ ap (λ (ask : NetAskData). section_object (filtered_face ask (net_face net rows)))
-    (ap (λ (pids : Pick). record { pids = pids; families = c.ask.inside.families.items }) (sym c.in-All.is) ∙ c.ask.view_is))))
+    (ap (λ (pids : Pick). record { pids = pids; families = c.ask.inside.families.items }) (sym c.in-All.is)
+    ∙ c.ask.view_is))))
     c.all_groups.ensures
 
 pub returns-in-Only : goal.returns-in-Only
@@ -31,8 +33,10 @@ returns-in-Only g c =
     IfOk-weaker c.groups_among.result _ _
     (λ tree is.
     is
-    ∙ ((λ i. object_of (map (λ pid. (pid, asked_group rows net (c.deref-in-Only.ensures.value i) pid)) (filter (λ pid. has_row rows (key.Pid net pid)) (c.as_slice.ensures i))))
+    ∙ ((λ i. object_of (map (λ pid. (pid, asked_group rows net (c.deref-in-Only.ensures.value i) pid))
+    (filter (λ pid. has_row rows (key.Pid net pid)) (c.as_slice.ensures i))))
     ∙ (some_asked rows net c.ask.inside.families.items c.in-Only.pids
     ∙ ap (λ (ask : NetAskData). section_object (filtered_face ask (net_face net rows)))
-    (ap (λ (pids : Pick). record { pids = pids; families = c.ask.inside.families.items }) (sym c.in-Only.is) ∙ c.ask.view_is))))
+    (ap (λ (pids : Pick). record { pids = pids; families = c.ask.inside.families.items }) (sym c.in-Only.is)
+    ∙ c.ask.view_is))))
     c.groups_among.ensures

@@ -10,4 +10,5 @@ loop-pid-init g c =
     let net = c.args.net.now in
     let rows = g.R.RowStore.rows c.args.rows.now in
     rw c.new-groups.ensures
-    (groups_of_all (asked_group rows net c.args.families.now) (filter (λ pid. has_row rows (key.Pid net pid)) c.args.pids.now))
+    (groups_of_all (asked_group rows net c.args.families.now)
+    (filter (λ pid. has_row rows (key.Pid net pid)) c.args.pids.now))

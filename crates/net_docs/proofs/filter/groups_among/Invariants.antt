@@ -11,5 +11,7 @@ use Rattle.net_docs.proofs.filter.groups_among.Given as goal
 abbrev pub invariant-loop-pid : goal.invariant-loop-pid
 invariant-loop-pid g l =
     let rows = g.R.RowStore.rows l.rows in
-    with_groups (asked_group rows l.net l.families) (members_data l.groups) (filter (λ pid. has_row rows (key.Pid l.net pid)) (drop l.pid-index l.pids))
-    ≡ members_of (map (λ pid. (pid, asked_group rows l.net l.families pid)) (filter (λ pid. has_row rows (key.Pid l.net pid)) l.pids))
+    with_groups (asked_group rows l.net l.families) (members_data l.groups)
+    (filter (λ pid. has_row rows (key.Pid l.net pid)) (drop l.pid-index l.pids))
+    ≡ members_of (map (λ pid. (pid, asked_group rows l.net l.families pid))
+    (filter (λ pid. has_row rows (key.Pid l.net pid)) l.pids))

@@ -9,5 +9,6 @@ returns g c =
     let net = c.args.net.now in
     let rows = g.R.RowStore.rows c.args.rows.now in
     IfOk-weaker c.group_of.result _ _
-    (λ tree is. is ∙ (ap group_of (c.deref.ensures.value ∙ c.in_ok-prefixes.ensures) ∙ group_owned rows net c.args.pid.now))
+    (λ tree is. is ∙ (ap group_of (c.deref.ensures.value ∙ c.in_ok-prefixes.ensures)
+    ∙ group_owned rows net c.args.pid.now))
     c.group_of.ensures

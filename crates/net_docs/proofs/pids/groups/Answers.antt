@@ -14,7 +14,9 @@ loop-row-init g c =
     let net = c.args.net.now in
     let rows = g.R.RowStore.rows c.args.rows.now in
     let walk : filter_map pid_in c.into_iter-row-iterator.result ≡ pids_of rows net =
-    ap (filter_map pid_in) (c.into_iter-row-iterator.ensures.into_iter_gives ∙ (c.rows_in-row-items.ensures ∙ ap (λ of. rows_in rows (span.Pids of)) c.in_ok-clone.ensures.cases))
+    ap (filter_map pid_in) (c.into_iter-row-iterator.ensures.into_iter_gives
+    ∙ (c.rows_in-row-items.ensures ∙ ap (λ of. rows_in rows (span.Pids of)) c.in_ok-clone.ensures.cases))
     ∙ pids_in_span rows net in
-    let all : c.as_slice-left.result.now ≡ prefixes_in rows net = c.as_slice-left.ensures.value ∙ c.in_ok-prefixes.ensures in
+    let all : c.as_slice-left.result.now ≡ prefixes_in rows net = c.as_slice-left.ensures.value
+    ∙ c.in_ok-prefixes.ensures in
     rw (c.new-groups.ensures, walk, all) (groups_merged net rows c.requires.sorted)

@@ -8,7 +8,8 @@ use Rattle.net_docs.specs.Prefixes.{pid_in}
 use Rattle.net_docs.proofs.MergedLemmas.{with_merged}
 use Rattle.net_docs.proofs.pids.groups.Given as goal
 
--- the groups that are there, and those of the PIDs that the walk has left, with the prefixes that are left, are the groups of all
+-- the groups that are there, and those of the PIDs that the walk has left, with the prefixes that are left, are the
+-- groups of all
 abbrev pub invariant-loop-row : goal.invariant-loop-row
 invariant-loop-row g l =
     let rows = g.R.RowStore.rows l.rows in

@@ -11,5 +11,6 @@ loop-row-init g c =
     let rows = g.R.RowStore.rows c.args.rows.now in
     let walk : c.into_iter-row-iterator.result ≡ rows_in rows (span.PrefixesOf net pid) =
     c.into_iter-row-iterator.ensures.into_iter_gives
-    ∙ (c.rows_in-row-items.ensures ∙ (λ i. rows_in rows (span.PrefixesOf (c.in_ok-clone.ensures.cases i) (c.in_ok-clone-2.ensures.cases i)))) in
+    ∙ (c.rows_in-row-items.ensures
+    ∙ (λ i. rows_in rows (span.PrefixesOf (c.in_ok-clone.ensures.cases i) (c.in_ok-clone-2.ensures.cases i)))) in
     rw (c.new-prefixes.ensures.items, walk) (prefixes_in_span rows net pid)

@@ -9,5 +9,6 @@ returns g c =
     let net = c.args.net.now in
     let pid = c.args.pid.now in
     c.listed.ensures
-    ∙ (ap listed (c.in_ok-texts.ensures ∙ (λ i. texts_in_family (c.as_str.ensures.value i) ((c.deref.ensures.value ∙ c.in_ok-prefixes.ensures) i)))
+    ∙ (ap listed (c.in_ok-texts.ensures
+    ∙ (λ i. texts_in_family (c.as_str.ensures.value i) ((c.deref.ensures.value ∙ c.in_ok-prefixes.ensures) i)))
     ∙ listed_is rows net pid c.args.kind.now c.requires)

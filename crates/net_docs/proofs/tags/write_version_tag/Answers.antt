@@ -16,9 +16,12 @@ returns g c =
     let net = c.args.net.now in
     let rows = g.R.RowStore.rows c.args.rows.now in
     let id : AddsMember (codes "resource-id") (string net) c.begin_object.new.self c.write_text.new.out =
-    subst (λ text. AddsMember (codes "resource-id") (string text) c.begin_object.new.self c.write_text.new.out) c.as_str.ensures c.in_ok-write_text.ensures in
-    let tag : AddsMember (codes "tag") (string (tag_of rows (resource.Net net))) c.write_text.new.out c.write_text-2.new.out = search rules in
+    subst (λ text. AddsMember (codes "resource-id") (string text) c.begin_object.new.self c.write_text.new.out)
+    c.as_str.ensures c.in_ok-write_text.ensures in
+    let tag : AddsMember (codes "tag") (string (tag_of rows (resource.Net net))) c.write_text.new.out
+    c.write_text-2.new.out = search rules in
     on_ok_weaker c.end_object.result
-    (λ closed. object_of_two (codes "resource-id") (codes "tag") (string net) (string (tag_of rows (resource.Net net))) c.args.out.now c.begin_object.new.self c.write_text.new.out
+    (λ closed. object_of_two (codes "resource-id") (codes "tag") (string net) (string (tag_of rows (resource.Net net)))
+    c.args.out.now c.begin_object.new.self c.write_text.new.out
     c.write_text-2.new.out c.end_object.new.self (search rules) (search rules) id tag closed (search rules))
     c.end_object.ensures.ok

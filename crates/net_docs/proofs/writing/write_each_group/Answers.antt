@@ -15,11 +15,13 @@ loop-row-init g c =
     let net = c.args.net.now in
     let rows = g.R.RowStore.rows c.args.rows.now in
     let walk : filter_map pid_in c.into_iter-row-iterator.result ≡ pids_of rows net =
-    ap (filter_map pid_in) (c.into_iter-row-iterator.ensures.into_iter_gives ∙ (c.rows_in-row-items.ensures ∙ ap (λ of. rows_in rows (span.Pids of)) c.in_ok-clone.ensures.cases))
+    ap (filter_map pid_in) (c.into_iter-row-iterator.ensures.into_iter_gives
+    ∙ (c.rows_in-row-items.ensures ∙ ap (λ of. rows_in rows (span.Pids of)) c.in_ok-clone.ensures.cases))
     ∙ pids_in_span rows net in
     record {
       before = refl;
-      tokens = ap (λ pids. c.args.out.now.tokens ++ members_tokens (members_outline (groups_in_order rows net pids))) walk;
+      tokens = ap (λ pids. c.args.out.now.tokens ++ members_tokens (members_outline (groups_in_order rows net pids)))
+          walk;
     }
 
 pub returns : goal.returns
@@ -29,6 +31,7 @@ returns g c =
     let none : c.loop-row.row-iterator ≡ [] = search rules in
     let all = c.loop-row.invariant in
     record {
-      tokens = rw none at all.tokens ∙ ap (λ ms. c.args.out.now.tokens ++ members_tokens (members_outline ms)) (sym (groups_stand rows net c.requires.sorted));
+      tokens = rw none at all.tokens ∙ ap (λ ms. c.args.out.now.tokens ++ members_tokens (members_outline ms))
+          (sym (groups_stand rows net c.requires.sorted));
       before = all.before;
     }

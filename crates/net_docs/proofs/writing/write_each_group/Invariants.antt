@@ -13,6 +13,7 @@ invariant-loop-row g l =
     let rows = g.R.RowStore.rows l.rows in
     record {
       before : l.out.before ≡ l.initial.out.before;
-      tokens : l.out.tokens ++ members_tokens (members_outline (groups_in_order rows l.net (filter_map pid_in l.row-iterator)))
+      tokens : l.out.tokens ++ members_tokens
+          (members_outline (groups_in_order rows l.net (filter_map pid_in l.row-iterator)))
           ≡ l.initial.out.tokens ++ members_tokens (members_outline (groups_in_order rows l.net (pids_of rows l.net)));
     }

@@ -16,6 +16,7 @@ returns g c =
     let whole : group_of c.deref.result.now ≡ group_object (net_face net rows) pid =
     ap group_of (c.deref.ensures.value ∙ c.in_ok-prefixes.ensures) ∙ group_owned rows net pid in
     on_ok_weaker c.write_families.result
-    (λ added. named_value pid (group_object (net_face net rows) pid) c.args.out.now c.key.new.self c.write_families.new.out (search rules) (search rules)
+    (λ added. named_value pid (group_object (net_face net rows) pid) c.args.out.now c.key.new.self
+    c.write_families.new.out (search rules) (search rules)
     (subst (λ d. AddsValue d c.key.new.self c.write_families.new.out) whole added))
     c.write_families.ensures

@@ -12,5 +12,6 @@ invariant-loop-prefix l =
     let all = texts_in_family l.kind l.prefixes in
     record {
       before : l.out.before ≡ l.initial.out.before;
-      tokens : l.out.tokens ++ items_tokens (items_outline (items_of left)) ≡ l.initial.out.tokens ++ items_tokens (items_outline (items_of all));
+      tokens : l.out.tokens ++ items_tokens (items_outline (items_of left)) ≡ l.initial.out.tokens
+          ++ items_tokens (items_outline (items_of all));
     }

@@ -10,7 +10,8 @@ pub invariant_of-self : goal.invariant_of-self
 invariant_of-self g c =
     let rows = g.R.RowStore.rows c.self.inside.store.now in
     let row = c.in_ok-row.row.now in
-    walking_in_run rows (rows_past rows row.0) c.run_behind-self-inside.result.now c.self.invariant.sorted (rows_past_tail rows row.0 c.self.invariant.sorted) c.run_behind-self-inside.ensures
+    walking_in_run rows (rows_past rows row.0) c.run_behind-self-inside.result.now c.self.invariant.sorted
+    (rows_past_tail rows row.0 c.self.invariant.sorted) c.run_behind-self-inside.ensures
 
 pub returns-clause-steps : goal.returns-clause-steps
 returns-clause-steps g c =
@@ -18,8 +19,10 @@ returns-clause-steps g c =
     let row = c.in_ok-row.row.now in
     let run = c.run_behind-self-inside.result.now in
     let left : rows_left rows run ≡ rows_past rows row.0 =
-    left_in_run rows (rows_past rows row.0) run c.self.invariant.sorted (rows_past_tail rows row.0 c.self.invariant.sorted) c.run_behind-self-inside.ensures in
-    let first : rows_left rows c.self.inside.run.now ≡ row ∷ rows_left rows run = rw (c.in_ok-row.ensures.cases.0, left) refl in
+    left_in_run rows (rows_past rows row.0) run c.self.invariant.sorted
+    (rows_past_tail rows row.0 c.self.invariant.sorted) c.run_behind-self-inside.ensures in
+    let first : rows_left rows c.self.inside.run.now ≡ row ∷ rows_left rows run =
+    rw (c.in_ok-row.ensures.cases.0, left) refl in
     sym c.self.view_is ∙ first
 
 pub returns-clause-goes : goal.returns-clause-goes

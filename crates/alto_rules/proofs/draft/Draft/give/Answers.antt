@@ -21,7 +21,9 @@ returns g c =
     IfOk-weaker c.write.result _ _
     (λ draft h. h
     ∙ (ap (λ (d : Drafted). wrote d (writing c.in_ok-key.key (Some value.Unit) ∷ [])) c.in_ok-draft.ensures.taken
-    ∙ (ap (λ (k : Key). wrote (wrote c.args.self (taking (drafted_rows c.args.self) c.args.net.now c.args.pid.now c.args.prefix.now)) (writing k (Some value.Unit) ∷ []))
+    ∙ (ap (λ (k : Key). wrote (wrote c.args.self (taking (drafted_rows c.args.self) c.args.net.now c.args.pid.now
+    c.args.prefix.now)) (writing k (Some value.Unit) ∷ []))
     c.in_ok-key.ensures
-    ∙ wrote_twice c.args.self (taking (drafted_rows c.args.self) c.args.net.now c.args.pid.now c.args.prefix.now) (putting (key.Prefix c.args.net.now c.args.pid.now c.args.prefix.now) value.Unit ∷ []))))
+    ∙ wrote_twice c.args.self (taking (drafted_rows c.args.self) c.args.net.now c.args.pid.now c.args.prefix.now)
+    (putting (key.Prefix c.args.net.now c.args.pid.now c.args.prefix.now) value.Unit ∷ []))))
     c.write.ensures

@@ -9,5 +9,6 @@ pub returns : goal.returns
 returns g c =
     rw (← c.self.view_is)
     (c.has_row.ensures
-    ∙ (ap (λ (written : Option Bool). unwrap_or written (has_row (g.R.RowStore.rows c.self.inside.rows.now) c.args.key.now)) c.has.ensures
+    ∙ (ap (λ (written : Option Bool). unwrap_or written (has_row (g.R.RowStore.rows c.self.inside.rows.now)
+    c.args.key.now)) c.has.ensures
     ∙ sym (c.self.invariant.indexed.rows_at c.args.key.now)))

@@ -12,4 +12,5 @@ twice false = refl
 pub returns : goal.returns
 returns g c =
     twice c.is_none.result ∙ (ap not (sym c.is_none.ensures)
-    ∙ sym (free_owner (drafted_rows c.args.self.now) c.args.net.now c.args.prefix.now c.in_ok-owner.field-0 c.in_ok-owner.ensures))
+    ∙ sym (free_owner (drafted_rows c.args.self.now) c.args.net.now c.args.prefix.now c.in_ok-owner.field-0
+    c.in_ok-owner.ensures))

@@ -10,4 +10,5 @@ use Rattle.alto_rules.proofs.draft.Draft.own_rule.Goals as goal
 pub returns-in-PathPut : goal.returns-in-PathPut
 returns-in-PathPut g c =
     IfOk-weaker c.anes_rule.result _ _
-    (λ broken h. h ∙ ap (λ (of : Edit). first_broken (own_checks (drafted_rows c.args.self.now) of)) (sym c.in-PathPut.is)) c.anes_rule.ensures
+    (λ broken h. h ∙ ap (λ (of : Edit). first_broken (own_checks (drafted_rows c.args.self.now) of))
+    (sym c.in-PathPut.is)) c.anes_rule.ensures

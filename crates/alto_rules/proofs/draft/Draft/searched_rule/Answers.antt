@@ -7,7 +7,8 @@ use Rattle.alto_rules.proofs.draft.Draft.searched_rule.Goals as goal
 
 pub returns-in-NetAdd : goal.returns-in-NetAdd
 returns-in-NetAdd g c =
-    IfOk-weaker c.own_rule.result _ _ (λ broken h. h ∙ added_rule (drafted_rows c.args.self.now) c.args.edit.now _ c.in-NetAdd.is) c.own_rule.ensures
+    IfOk-weaker c.own_rule.result _ _ (λ broken h. h ∙ added_rule (drafted_rows c.args.self.now) c.args.edit.now _
+    c.in-NetAdd.is) c.own_rule.ensures
 
 pub returns-then-not-branch : goal.returns-then-not-branch
 returns-then-not-branch g c =

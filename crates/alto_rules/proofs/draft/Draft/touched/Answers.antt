@@ -9,6 +9,8 @@ pub returns : goal.returns
 returns g c =
     IfOk-weaker c.all_dependents.result _ _
     (λ all joined. subst (λ (d : Drafted). HasTouched d.rows d.writes all) c.self.view_is
-    (has_touched (g.R.RowStore.rows c.self.inside.rows.now) c.self.inside.writes.items c.self.inside.kept.index.parts all c.self.invariant.sorted
-    (subst (λ (d : Drafted). HaveNoVersions d.writes) (sym c.self.view_is) c.requires) c.self.invariant.indexed.resources joined))
+    (has_touched (g.R.RowStore.rows c.self.inside.rows.now) c.self.inside.writes.items c.self.inside.kept.index.parts
+    all c.self.invariant.sorted
+    (subst (λ (d : Drafted). HaveNoVersions d.writes) (sym c.self.view_is) c.requires)
+    c.self.invariant.indexed.resources joined))
     c.all_dependents.ensures

@@ -10,5 +10,9 @@ use Rattle.alto_rules.proofs.draft.Draft.versioned.Goals as goal
 
 pub loop-version-init : goal.loop-version-init
 loop-version-init g c =
-    let all : c.into_iter-version-iterator.result.rest.items ≡ sequence_writes c.args.self.rows c.args.self.writes = search rules in
-    (subst (λ (writes : List Write). AllByRecursion (λ write. gives_none write.key ≡ true) writes) (sym all) (versions_give_none c.args.self.rows _), refl)
+    let all : c.into_iter-version-iterator.result.rest.items ≡ sequence_writes c.args.self.rows c.args.self.writes =
+    search rules in (
+      subst (λ (writes : List Write). AllByRecursion (λ write. gives_none write.key ≡ true) writes) (sym all)
+          (versions_give_none c.args.self.rows _),
+      refl,
+    )

@@ -17,8 +17,11 @@ returns g c =
     let rows = c.args.self.now.rows in
     let all : c.loop-of.yielded ≡ c.in_ok-of-items.of-items.keys =
     sym (map-id c.loop-of.yielded)
-    ∙ (iter_end (λ (x : Resource). x) c.in_ok-of-items.of-items.keys c.loop-of.yielded _ _ _ _ given.0 c.loop-of.yielded_by c.in-None.is c.next.ensures.steps).0 in
+    ∙ (iter_end (λ (x : Resource). x) c.in_ok-of-items.of-items.keys c.loop-of.yielded _ _ _ _ given.0
+    c.loop-of.yielded_by c.in-None.is c.next.ensures.steps).0 in
     c.loop-of.invariant
-    ∙ (ap (λ (ofs : List Resource). map (next_version rows) (filter (is_declared (after rows c.args.self.now.writes)) ofs)) all
-    ∙ ap (map (next_version rows)) (touched_in_order rows c.args.self.now.writes c.in_ok-of-items.of-items (rw (← c.self.view_is) c.self.invariant.sorted)
+    ∙ (ap (λ (ofs : List Resource). map (next_version rows)
+    (filter (is_declared (after rows c.args.self.now.writes)) ofs)) all
+    ∙ ap (map (next_version rows)) (touched_in_order rows c.args.self.now.writes c.in_ok-of-items.of-items
+    (rw (← c.self.view_is) c.self.invariant.sorted)
     (by_resource_cmp (λ R. IsOrdered R c.in_ok-of-items.of-items) given.4) c.in_ok-of-items.ensures))

@@ -7,4 +7,5 @@ use Rattle.alto_rules.specs.Draft.{drafted_rows}
 use Rattle.alto_rules.proofs.draft.Draft.versions.Given as goal
 
 abbrev pub invariant-loop-of : goal.invariant-loop-of
-invariant-loop-of g l = l.versions.items ≡ map (next_version l.self.rows) (filter (is_declared (drafted_rows l.self)) l.yielded)
+invariant-loop-of g l = l.versions.items
+    ≡ map (next_version l.self.rows) (filter (is_declared (drafted_rows l.self)) l.yielded)

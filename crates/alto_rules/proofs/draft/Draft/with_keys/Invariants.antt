@@ -10,5 +10,6 @@ use Rattle.alto_rules.proofs.draft.Draft.with_keys.Given as goal
 
 abbrev pub invariant-loop-key : goal.invariant-loop-key
 invariant-loop-key g l = (at : Key)
-    → (contains key_cmp l.all at || (is_withdrawn (drafted_rows l.self) l.declared at && has_key (drop l.key-index l.these) at))
+    → (contains key_cmp l.all at || (is_withdrawn (drafted_rows l.self) l.declared at
+    && has_key (drop l.key-index l.these) at))
     ≡ (contains key_cmp l.fn.keys at || (is_withdrawn (drafted_rows l.self) l.declared at && has_key l.these at))

@@ -19,6 +19,7 @@ returns-then-not-has g c =
 pub returns : goal.returns
 returns g c =
     IfOk-weaker c.with_key.result _ _
-    (λ all put. picked_put (is_withdrawn (drafted_rows c.args.self.now) c.args.declared.now) c.args.key.now c.args.keys all
+    (λ all put. picked_put (is_withdrawn (drafted_rows c.args.self.now) c.args.declared.now)
+    c.args.key.now c.args.keys all
     (rw (← c.names.ensures, c.if-not-names.false, ← c.has.ensures, c.if-not-has.false) refl) put)
     c.with_key.ensures

@@ -13,8 +13,10 @@ returns g c =
     let draft = c.args.self.now in
     let declared = c.args.declared.now in
     let same : c.deref.result.now ≡ named_in c.args.self.now.rows c.args.span c.args.declared.now =
-    c.deref.ensures.value ∙ (c.in_ok-named.ensures ∙ ap (λ (d : Drafted). named_in d.rows c.args.span c.args.declared.now) c.self.view_is) in
+    c.deref.ensures.value ∙ (c.in_ok-named.ensures
+    ∙ ap (λ (d : Drafted). named_in d.rows c.args.span c.args.declared.now) c.self.view_is) in
     IfOk-weaker c.with_keys.result _ _
     (λ all picked. picked_named (drafted_rows draft) draft.rows c.args.span declared c.args.keys all
-    (subst (λ (these : List Key). HasPicked (is_withdrawn (drafted_rows draft) declared) (has_key these) c.args.keys all) same picked))
+    (subst (λ (these : List Key). HasPicked (is_withdrawn (drafted_rows draft) declared) (has_key these) c.args.keys
+    all) same picked))
     c.with_keys.ensures

@@ -13,5 +13,7 @@ use Rattle.alto_rules.proofs.draft.Draft.with_spans.Given as goal
 
 abbrev pub invariant-loop-span : goal.invariant-loop-span
 invariant-loop-span g l = (at : Key)
-    → (contains key_cmp l.all at || (is_withdrawn (drafted_rows l.self) l.declared at && list_any (λ span. has_row (rows_in l.self.rows span) at) l.span-iterator.rest.items))
-    ≡ (is_withdrawn (drafted_rows l.self) l.declared at && list_any (λ span. has_row (rows_in l.self.rows span) at) l.fn.spans.items)
+    → (contains key_cmp l.all at || (is_withdrawn (drafted_rows l.self) l.declared at
+    && list_any (λ span. has_row (rows_in l.self.rows span) at) l.span-iterator.rest.items))
+    ≡ (is_withdrawn (drafted_rows l.self) l.declared at && list_any (λ span. has_row (rows_in l.self.rows span) at)
+    l.fn.spans.items)

@@ -10,5 +10,7 @@ use Rattle.alto_rules.proofs.draft.Draft.with_written.Given as goal
 
 abbrev pub invariant-loop-write : goal.invariant-loop-write
 invariant-loop-write g l = (at : Key)
-    → (contains key_cmp l.all at || (is_withdrawn (drafted_rows l.self) l.declared at && is_written_key (drop l.write-index l.writes) at))
-    ≡ (contains key_cmp l.fn.keys at || (is_withdrawn (drafted_rows l.self) l.declared at && is_written_key l.writes at))
+    → (contains key_cmp l.all at || (is_withdrawn (drafted_rows l.self) l.declared at
+    && is_written_key (drop l.write-index l.writes) at))
+    ≡ (contains key_cmp l.fn.keys at
+    || (is_withdrawn (drafted_rows l.self) l.declared at && is_written_key l.writes at))

@@ -14,7 +14,8 @@ pub returns : goal.returns
 returns g c =
     IfOk-weaker c.without.result _ _
     (λ draft h. h ∙ ap (λ (more : List Write). wrote c.args.self more)
-    (withdrawn_all (drafted_rows c.args.self) c.in_ok-declared.declared c.in_ok-keys.keys (ap withdraws c.in_ok-declared.ensures ∙ c.requires)
+    (withdrawn_all (drafted_rows c.args.self) c.in_ok-declared.declared c.in_ok-keys.keys
+    (ap withdraws c.in_ok-declared.ensures ∙ c.requires)
     c.withdrawn.ensures.sorted c.without.ensures.ordered c.in_ok-keys.ensures.keys
     ∙ ap (λ (k : Key). withdrawing (drafted_rows c.args.self) k) c.in_ok-declared.ensures))
     c.without.ensures.deleted

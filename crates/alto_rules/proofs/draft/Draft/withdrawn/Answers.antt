@@ -23,10 +23,14 @@ returns-clause-keys g c =
     h at
     ∙ (ap (λ b. b || (is_withdrawn (drafted_rows draft) declared at && is_written_key c.deref.result.now at))
     (c.in_ok-all.ensures at
-    ∙ ap (λ (spans : List Span). is_withdrawn (drafted_rows draft) declared at && list_any (λ span. has_row (rows_in draft.rows span) at) spans) c.in_ok-spans.ensures)
-    ∙ (ap (λ (writes : List Write). (is_withdrawn (drafted_rows draft) declared at && list_any (λ span. has_row (rows_in draft.rows span) at) (spans_of declared))
-    || (is_withdrawn (drafted_rows draft) declared at && is_written_key writes at)) (whole ∙ ap (λ (d : Drafted). d.writes) c.self.view_is)
-    ∙ all_withdrawn draft declared at (subst (λ (d : Drafted). AreSorted d.rows) c.self.view_is c.self.invariant.sorted) c.requires)))
+    ∙ ap (λ (spans : List Span). is_withdrawn (drafted_rows draft) declared at
+    && list_any (λ span. has_row (rows_in draft.rows span) at) spans) c.in_ok-spans.ensures)
+    ∙ (ap (λ (writes : List Write). (is_withdrawn (drafted_rows draft) declared at
+    && list_any (λ span. has_row (rows_in draft.rows span) at) (spans_of declared))
+    || (is_withdrawn (drafted_rows draft) declared at && is_written_key writes at))
+    (whole ∙ ap (λ (d : Drafted). d.writes) c.self.view_is)
+    ∙ all_withdrawn draft declared at (subst (λ (d : Drafted). AreSorted d.rows) c.self.view_is c.self.invariant.sorted)
+    c.requires)))
     c.with_written.ensures
 
 pub returns-clause-sorted : goal.returns-clause-sorted

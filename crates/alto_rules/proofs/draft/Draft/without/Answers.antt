@@ -15,7 +15,8 @@ returns-clause-deleted g c =
     let given = c.into_iter-key-iterator.ensures.into_iter_gives in
     let all : c.loop-key.yielded ≡ c.args.keys.keys =
     sym (map-id c.loop-key.yielded)
-    ∙ (iter_end (λ (x : Key). x) c.args.keys.keys c.loop-key.yielded _ _ _ _ given.0 c.loop-key.yielded_by c.in-None.is c.next.ensures.steps).0 in
+    ∙ (iter_end (λ (x : Key). x) c.args.keys.keys c.loop-key.yielded _ _ _ _ given.0 c.loop-key.yielded_by c.in-None.is
+    c.next.ensures.steps).0 in
     c.loop-key.invariant
     ∙ ap (λ (more : List Write). wrote c.args.self more) (ap (λ (keys : List Key). map deleting keys) all)
 

@@ -12,16 +12,21 @@ pub changed_in-returns-in_err-new-clause-err : goal.changed_in-returns-in_err-ne
 changed_in-returns-in_err-new-clause-err t c =
     let name = c.args.name.now in
     let ms = entries_data c.args.members.entries in
-    let found : option_map data_of c.remove-old.result ≡ get_member name ms = ap (option_map data_of) c.remove-old.ensures.value ∙ data_of-lookup name c.args.members.entries in
+    let found : option_map data_of c.remove-old.result ≡ get_member name ms =
+    ap (option_map data_of) c.remove-old.ensures.value ∙ data_of-lookup name c.args.members.entries in
     let p = err_from_is_err_and c.from_residual.result c.from_residual.ensures.1 in
-    rw (p.1, p.2) (λ other. member_refused c.args.k name c.args.path.now (operation_of c.args.op.now).action (option_map data_of c.remove-old.result) ms _ found (c.in_err-new.ensures.err other))
+    rw (p.1, p.2) (λ other. member_refused c.args.k name c.args.path.now (operation_of c.args.op.now).action
+    (option_map data_of c.remove-old.result) ms _ found (c.in_err-new.ensures.err other))
 
 pub changed_in-returns-clause-ok : goal.changed_in-returns-clause-ok
 changed_in-returns-clause-ok t c =
     let name = c.args.name.now in
     let ms = entries_data c.args.members.entries in
-    let found : option_map data_of c.remove-old.result ≡ get_member name ms = ap (option_map data_of) c.remove-old.ensures.value ∙ data_of-lookup name c.args.members.entries in
-    member_changed name c.args.path.now (operation_of c.args.op.now).action (option_map data_of c.remove-old.result) c.in_ok-new.new ms
+    let found : option_map data_of c.remove-old.result ≡ get_member name ms =
+    ap (option_map data_of) c.remove-old.ensures.value ∙ data_of-lookup name c.args.members.entries in
+    member_changed name c.args.path.now (operation_of c.args.op.now).action (option_map data_of c.remove-old.result)
+    c.in_ok-new.new ms
     (entries_data c.remove-old.new.self.entries) (entries_data c.put.new.members.entries) c.requires found
-    (taken_others c.args.members.entries c.remove-old.new.self.entries name c.requires c.remove-old.ensures.entries) c.in_ok-new.ensures.ok c.in_ok-put.ensures
+    (taken_others c.args.members.entries c.remove-old.new.self.entries name c.requires c.remove-old.ensures.entries)
+    c.in_ok-new.ensures.ok c.in_ok-put.ensures
     ∙ ap (λ d. Ok (Some d)) (sym (data_of_object c.put.new.members))

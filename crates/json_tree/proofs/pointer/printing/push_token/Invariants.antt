@@ -5,4 +5,5 @@ use Rattle.json_tree.proofs.pointer.printing.push_token.Given as goal
 
 -- what is printed, with the token of what is left, makes the whole
 abbrev pub invariant-loop-c : goal.invariant-loop-c
-invariant-loop-c l = string_bytes l.text ++ token_of (chars_rest l.c-iterator) ≡ string_bytes l.fn.text ++ token_of l.fn.name
+invariant-loop-c l = string_bytes l.text ++ token_of (chars_rest l.c-iterator) ≡ string_bytes l.fn.text
+    ++ token_of l.fn.name

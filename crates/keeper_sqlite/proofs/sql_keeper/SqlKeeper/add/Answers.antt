@@ -8,8 +8,10 @@ use Rattle.alto_keeper.specs.Stored.{RowData, StoredData, with_row}
 use Rattle.keeper_sqlite.specs.Store.{table_rows}
 use Rattle.keeper_sqlite.specs.Texts.{insert_text}
 use Rattle.keeper_sqlite.specs.SqlKeeper.{SqlKeeperData, IsClean, IsSure, Holds, HoldsRows}
-use Rattle.keeper_sqlite.proofs.StatementLemmas.{executes_open, added_held, added_open, refused_ends, ends_idle}
-use Rattle.keeper_sqlite.proofs.StatementLemmas.{still_rows, on_err}
+use Rattle.keeper_sqlite.proofs.EndLemmas.{executes_open, refused_ends, ends_idle}
+use Rattle.keeper_sqlite.proofs.StatementLemmas.{added_held, added_open}
+use Rattle.keeper_sqlite.proofs.EndLemmas.{still_rows}
+use Rattle.keeper_sqlite.proofs.DeleteLemmas.{on_err}
 use Rattle.keeper_sqlite.proofs.CrashLemmas.{insert_finds, settled_rows}
 use Rattle.keeper_sqlite.proofs.sql_keeper.SqlKeeper.add.Goals as goal
 

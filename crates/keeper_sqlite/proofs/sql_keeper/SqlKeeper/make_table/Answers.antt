@@ -5,8 +5,9 @@ use Rattle.alto_keeper.specs.Stored.{StoredData}
 use Rattle.keeper_sqlite.specs.Store.{table_rows}
 use Rattle.keeper_sqlite.specs.Texts.{create_text}
 use Rattle.keeper_sqlite.specs.SqlKeeper.{SqlKeeperData, Holds, IsClean, CrashFinds}
-use Rattle.keeper_sqlite.proofs.StatementLemmas.{executes_open, created_held, refused_ends, ends_idle, still_held}
-use Rattle.keeper_sqlite.proofs.StatementLemmas.{on_err}
+use Rattle.keeper_sqlite.proofs.EndLemmas.{executes_open, refused_ends, ends_idle, still_held}
+use Rattle.keeper_sqlite.proofs.StatementLemmas.{created_held}
+use Rattle.keeper_sqlite.proofs.DeleteLemmas.{on_err}
 use Rattle.keeper_sqlite.proofs.CrashLemmas.{create_finds}
 use Rattle.keeper_sqlite.proofs.sql_keeper.SqlKeeper.make_table.Goals as goal
 

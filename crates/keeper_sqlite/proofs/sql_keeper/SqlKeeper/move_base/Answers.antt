@@ -7,7 +7,7 @@ use Rattle.sqlite.specs.Tree.{Trees}
 use Rattle.alto_keeper.specs.Stored.{StoredData}
 use Rattle.keeper_sqlite.specs.Store.{table_rows}
 use Rattle.keeper_sqlite.specs.SqlKeeper.{SqlKeeperData, IsClean, IsSure, Holds, HoldsRows}
-use Rattle.keeper_sqlite.proofs.StatementLemmas.{still_rows}
+use Rattle.keeper_sqlite.proofs.EndLemmas.{still_rows}
 use Rattle.keeper_sqlite.proofs.AddingLemmas.{on_ok_weaker, on_err_weaker}
 use Rattle.keeper_sqlite.proofs.CrashLemmas.{move_finds}
 use Rattle.keeper_sqlite.proofs.sql_keeper.SqlKeeper.move_base.Goals as goal

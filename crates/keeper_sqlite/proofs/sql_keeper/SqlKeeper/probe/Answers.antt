@@ -3,7 +3,7 @@ use Rattle.std.proofs.Common.{[], sym, subst, arith}
 use Rattle.sqlite.specs.Held.{state}
 use Rattle.keeper_sqlite.specs.Texts.{probe_text}
 use Rattle.keeper_sqlite.specs.SqlKeeper.{SqlKeeperData, Holds, IsClean}
-use Rattle.keeper_sqlite.proofs.StatementLemmas.{probe_open, not_run_ends, ends_idle, still_held}
+use Rattle.keeper_sqlite.proofs.EndLemmas.{probe_open, not_run_ends, ends_idle, still_held}
 use Rattle.keeper_sqlite.proofs.AddingLemmas.{refused_by}
 use Rattle.keeper_sqlite.proofs.sql_keeper.SqlKeeper.probe.Goals as goal
 

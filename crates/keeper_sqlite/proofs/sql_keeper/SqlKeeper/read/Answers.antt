@@ -10,8 +10,8 @@ use Rattle.keeper_sqlite.specs.Reading.{shown_in, stored_in}
 use Rattle.keeper_sqlite.specs.Store.{all_rows, table_rows}
 use Rattle.keeper_sqlite.specs.SqlKeeper.{SqlKeeperData, IsClean, IsSure, Holds, HoldsRows}
 use Rattle.keeper_sqlite.proofs.TableLemmas.{read_back}
-use Rattle.keeper_sqlite.proofs.StatementLemmas.{shown_open, query_ends, ends_open, ends_idle, still_rows, read_rows}
-use Rattle.keeper_sqlite.proofs.StatementLemmas.{read_same}
+use Rattle.keeper_sqlite.proofs.EndLemmas.{shown_open, query_ends, ends_open, ends_idle, still_rows}
+use Rattle.keeper_sqlite.proofs.StatementLemmas.{read_rows, read_same}
 use Rattle.keeper_sqlite.proofs.CrashLemmas.{select_finds, on_ok, settled_rows}
 use Rattle.keeper_sqlite.proofs.sql_keeper.SqlKeeper.read.Goals as goal
 

@@ -10,4 +10,5 @@ returns g c =
     let rows = g.R.RowStore.rows c.self.inside.rows.now in
     let net = c.self.inside.net.now in
     rw (← c.self.view_is)
-    (IfOk-weaker c.group_names.result _ _ (λ names is. is ∙ sym (set_of-rising (pids_of rows net) (pids_rise net rows c.self.invariant.sorted))) c.group_names.ensures)
+    (IfOk-weaker c.group_names.result _ _ (λ names is. is
+    ∙ sym (set_of-rising (pids_of rows net) (pids_rise net rows c.self.invariant.sorted))) c.group_names.ensures)

@@ -4,5 +4,6 @@ use Rattle.net_docs.proofs.source.NetMapMapSource.value.Goals as goal
 
 pub unreachable-requires : goal.unreachable-requires
 unreachable-requires g c =
-    found_standing (g.R.RowStore.rows c.self.inside.rows.now) c.self.inside.net.now c.args.name.now (rw (← c.self.view_is) at c.requires)
+    found_standing (g.R.RowStore.rows c.self.inside.rows.now) c.self.inside.net.now c.args.name.now
+    (rw (← c.self.view_is) at c.requires)
     (sym c.in_ok-pid.ensures ∙ c.in-None.is)
