@@ -30,12 +30,13 @@ use crate::outcome::Answer;
 use crate::target::segment;
 use crate::types::{JSON_PATCH, MERGE_PATCH, media_type};
 use alto_http::{Request, Verb, is_decimal};
-use alto_replies::{Reply, gone, not_found, ok_reply, too_early, wrong_method};
+use alto_replies::{Body, Reply, gone, not_found, ok_reply, too_early, wrong_method};
 use alto_rows::{Key, Resource, RowStore, find_resource};
 use alto_versions::{Followed, Front};
 use edge_patch::{PatchForm, document_text};
 use edge_text::{merge_text, operations_text};
 use std::alloc::{AllocError, Global};
+use std::sync::Arc;
 use tips_graph::{EdgeStatus, Graph};
 
 /// The most digits of a number in the path of an edge.
@@ -180,7 +181,7 @@ fn edge_reply<R: RowStore>(
         Some(text) => text.to_vec(alloc)?,
         None => patch_text(alloc, resource, form, &**before, &**rows, &keys)?,
     };
-    ok_reply(alloc, patch_type(form), patch)
+    ok_reply(alloc, patch_type(form), Body::of_bytes(patch))
 }
 
 /// The text of the document at a number, at which these are the rows. It is written where no text of it is kept.
@@ -190,15 +191,15 @@ fn document_at<R: RowStore>(
     resource: &Resource,
     rows: &R,
     number: u64,
-) -> Result<Vec<u8>, AllocError>
+) -> Result<Body, AllocError>
     requires good { AreGood (R.rows rows.now) }
     requires declared { is_declared (R.rows rows.now) resource.now ≡ true }
     requires number { Some (R.rows rows.now) ≡ rows_at followed.now number }
-    ensures { IfOk result (λ bytes. bytes.items ≡ compact_text (documents.document resource.now (R.rows rows.now))) }
+    ensures { IfOk result (λ body. body ≡ compact_text (documents.document resource.now (R.rows rows.now))) }
 {
     match followed.document(resource, number) {
-        Some(pieces) => pieces.text(alloc),
-        None => document_text(alloc, resource, rows),
+        Some(pieces) => Ok(Body::of_map(Arc::try_clone(pieces)?)),
+        None => Ok(Body::of_bytes(document_text(alloc, resource, rows)?)),
     }
 }
 

@@ -16,7 +16,7 @@ use crate::target::segment;
 use alto_addr::Addr;
 use alto_http::Verb;
 use alto_names::{NameFault, NetName, PidName};
-use alto_replies::{Reply, not_found, ok_reply, wrong_method};
+use alto_replies::{Body, Reply, not_found, ok_reply, wrong_method};
 use alto_rows::{RowStore, read_typed_addr};
 use alto_versions::Front;
 use json::Writer;
@@ -92,7 +92,7 @@ fn lookup_reply(
     ok_reply(
         alloc,
         "application/json",
-        pid_text(alloc, table.pid_of(&addr))?,
+        Body::of_bytes(pid_text(alloc, table.pid_of(&addr))?),
     )
 }
 

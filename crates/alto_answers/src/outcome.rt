@@ -3,7 +3,7 @@ use alto_replies::Reply;
 use alto_rows::Resource;
 
 /// What a request comes to at a version.
-#[derive(Debug, Drop)]
+#[derive(Drop)]
 pub enum Answer {
     /// It is answered.
     Reply(Reply),

@@ -1,3 +1,4 @@
+pub mod Body
 pub mod Errors
 pub mod Replies
 pub mod Reply

@@ -8,6 +8,7 @@ ghost use Rattle.alto_asks.specs.Asks.{code_text};
 ghost use Rattle.alto_replies.specs.Errors.{told, error_meta, alto_error, reply_or_error};
 ghost use Rattle.alto_replies.specs.Reply.{IsReply};
 
+use crate::body::Body;
 use crate::reply::Reply;
 use alto_asks::{AskCode, AskFault};
 use json_tree::{Members, Name, Tree, text};
@@ -46,7 +47,7 @@ pub fn alto_error(
         status: 400,
         content_type: Name::from_str(alloc, ALTO_ERROR)?,
         allow: None,
-        body: text(alloc, &members.into_tree())?,
+        body: Body::of_bytes(text(alloc, &members.into_tree())?),
     })
 }
 

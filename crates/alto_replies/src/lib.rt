@@ -10,11 +10,13 @@
 //! ```
 #![tactic(auto)]
 
+mod body;
 mod errors;
 mod replies;
 mod reply;
 mod writing;
 
+pub use body::{Body, BodyParts};
 pub use errors::{alto_error, reply_or_error};
 pub use replies::{
     bad_form, document_reply, edit_reply, form_reply, gone, head_status, not_found, ok_reply,

@@ -12,6 +12,7 @@ ghost use Rattle.alto_replies.specs.Replies.{json_type, whole, ok_reply, documen
 ghost use Rattle.alto_replies.specs.Replies.{wrong_method, bad_form, form_reply, gone, too_early, receipt_reply};
 ghost use Rattle.alto_replies.specs.Replies.{fault_reply, edit_reply, head_status};
 
+use crate::body::Body;
 use crate::reply::Reply;
 use alto_book::{EditFault, Receipt};
 use alto_edits::Rule;
@@ -23,8 +24,8 @@ use std::alloc::{AllocError, Global};
 const JSON: &str = "application/json";
 
 /// The reply 200 with a body of this media type.
-pub fn ok_reply(alloc: Global, media_type: &str, body: Vec<u8>) -> Result<Reply, AllocError>
-    ensures reply { IfOk result (λ reply. reply ≡ ok_reply media_type.now body.items) }
+pub fn ok_reply(alloc: Global, media_type: &str, body: Body) -> Result<Reply, AllocError>
+    ensures reply { IfOk result (λ reply. reply ≡ ok_reply media_type.now body) }
     ensures has_bytes { IfOk result IsReply }
 {
     Ok(Reply {
@@ -40,7 +41,7 @@ pub fn document_reply(alloc: Global, media_type: &str, document: &Tree) -> Resul
     ensures reply { IfOk result (λ reply. reply ≡ document_reply media_type.now (data_of document.now)) }
     ensures has_bytes { IfOk result IsReply }
 {
-    ok_reply(alloc, media_type, text(alloc, document)?)
+    ok_reply(alloc, media_type, Body::of_bytes(text(alloc, document)?))
 }
 
 /// The reply that nothing is here, and why.
@@ -207,6 +208,6 @@ fn refusal(alloc: Global, status: u16, members: Members) -> Result<Reply, AllocE
         status,
         content_type: Name::from_str(alloc, JSON)?,
         allow: None,
-        body: text(alloc, &members.into_tree())?,
+        body: Body::of_bytes(text(alloc, &members.into_tree())?),
     })
 }

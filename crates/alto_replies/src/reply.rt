@@ -1,9 +1,10 @@
+use crate::body::Body;
 use alto_http::Verb;
 use json_tree::Name;
 use std::marker::Model;
 
 /// A reply, but for whether the connection closes after it.
-#[derive(Debug, Drop)]
+#[derive(Drop)]
 pub struct Reply {
     /// The status code (RFC 9110, section 15).
     pub status: u16,
@@ -12,7 +13,7 @@ pub struct Reply {
     /// The method that the target allows, with status 405.
     pub allow: Option<Verb>,
     /// The body.
-    pub body: Vec<u8>,
+    pub body: Body,
 }
 
 impl Model for Reply {
@@ -24,6 +25,6 @@ impl Model for Reply {
       status = reply.status;
       content_type = reply.content_type;
       allow = reply.allow;
-      body = reply.body.items;
+      body = reply.body;
     } };
 }

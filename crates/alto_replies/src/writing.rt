@@ -4,6 +4,7 @@ ghost use Rattle.alto_replies.specs.Reply.{IsReply, bytes_of, head_of, phrase_of
 ghost use Rattle.alto_replies.specs.Reply.{length_field, verb_text, allow_field, close_field};
 ghost use Rattle.alto_http.specs.declared.request.Verb.TheVariants as verb;
 
+use crate::body::Body;
 use crate::reply::Reply;
 use alto_http::Verb;
 use std::alloc::{AllocError, Global};
@@ -22,23 +23,20 @@ pub fn reply_bytes(alloc: Global, reply: &Reply, close: bool) -> Result<Vec<u8>,
     ensures { IfOk result (λ bytes. bytes.items ≡ bytes_of reply.now close) }
 {
     let mut bytes = head(alloc, reply, close)?.into_bytes();
-    bytes.extend_from_slice(&reply.body)?;
+    reply.body.append_to(&mut bytes)?;
     Ok(bytes)
 }
 
 /// The bytes of a reply in two parts, to be written one after the other. A body that isn't long stands in the first, so
 /// that one write puts out the reply. A long one is the second, and isn't copied.
 #[tactic(auto, unfolding(crate::specs::Reply::bytes_of))]
-pub fn reply_parts(
-    alloc: Global,
-    reply: Reply,
-    close: bool,
-) -> Result<(Vec<u8>, Vec<u8>), AllocError>
+pub fn reply_parts(alloc: Global, reply: Reply, close: bool) -> Result<(Vec<u8>, Body), AllocError>
     requires { IsReply reply }
-    ensures { IfOk result (λ parts. parts.0.items ++ parts.1.items ≡ bytes_of reply close) }
+    ensures { IfOk result (λ parts. parts.0.items ++ parts.1 ≡ bytes_of reply close) }
 {
-    if reply.body.len() <= LONGEST_COPIED {
-        return Ok((reply_bytes(alloc, &reply, close)?, Vec::new(alloc)));
+    if reply.body.len()? <= LONGEST_COPIED {
+        let bytes = reply_bytes(alloc, &reply, close)?;
+        return Ok((bytes, Body::of_bytes(Vec::new(alloc))));
     }
     let head = head(alloc, &reply, close)?;
     Ok((head.into_bytes(), reply.body))
@@ -49,10 +47,11 @@ fn head(alloc: Global, reply: &Reply, close: bool) -> Result<String, AllocError>
     requires { IsReply reply.now }
     ensures { IfOk result (λ head. string_bytes head ≡ head_of reply.now close) }
 {
-    let mut head = String::with_capacity(alloc, reply.body.len().min(LONGEST_COPIED) + HEAD_BYTES)?;
+    let length = reply.body.len()?;
+    let mut head = String::with_capacity(alloc, length.min(LONGEST_COPIED) + HEAD_BYTES)?;
     write_status(&mut head, reply.status)?;
     write_type(&mut head, reply.content_type.as_str())?;
-    write_length(&mut head, reply.body.len())?;
+    write_length(&mut head, length)?;
     write_allow(&mut head, reply.allow)?;
     write_close(&mut head, close)?;
     head.push_str("\r\n")?;

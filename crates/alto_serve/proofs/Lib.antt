@@ -1,3 +1,4 @@
+pub mod WritingLemmas
 mod ConnectionLemmas
 pub mod EventLemmas
 mod SoloLemmas

@@ -1,4 +1,4 @@
-ghost use Rattle.std.specs.Prelude.{◌≡◌, ◌<◌, ◌++◌, false, None, IfSome, OnErr, OnOk, List, ℕ, length, take};
+ghost use Rattle.std.specs.Prelude.{◌≡◌, ◌++◌, false, None, IfErr, IfOk, IfSome, OnErr, OnOk, List, ℕ};
 ghost use Rattle.alto_answers.specs.Answers.{client_of};
 ghost use Rattle.alto_http.specs.Link.{count_after, extended, followed_by};
 ghost use Rattle.alto_http.specs.Splits.{Begins};
@@ -7,6 +7,7 @@ ghost use Rattle.alto_serve.specs.Events.{IsGrown};
 ghost use Rattle.alto_serve.specs.Steps.{Becomes, Finishes, GoesOn, HasReply};
 ghost use Rattle.alto_serve.specs.Steps.{reads_at, so_far, writes_at};
 ghost use Rattle.alto_serve.specs.Turns.{setting_of};
+ghost use Rattle.alto_serve.specs.Writing.{BreaksOff, IsOutTo};
 
 use crate::clock::Clock;
 use crate::end::End;
@@ -16,10 +17,14 @@ use crate::turns::answered;
 use alto_addr::Addr;
 use alto_answers::{Client, Routes, Side};
 use alto_http::{Intake, Link, Request, WriteFault, read_request, write_all};
+use alto_replies::Body;
 use std::alloc::Global;
 
 /// How many requests a connection may bring.
 const MOST_REQUESTS: u32 = 1_000_000;
+
+/// The most bytes of a long reply that go out together, unless they are one part of its body.
+const MOST_GATHERED: usize = 32768;
 
 /// Serves a connection to its end: reads requests, answers each at the version that the office has then, and writes the
 /// replies. The client's address is `peer`, where it is known. For the next edge a request waits at most `most_waits`
@@ -133,23 +138,69 @@ fn respond<F: Office, L: Link, C: Clock>(
     let Ok((front, rest)) = answered(alloc, client, office, clock, request, most_waits) else {
         return Some(out_of_memory(link));
     };
-    match write_parts(link, &front, &rest) {
+    match write_parts(link, front, &rest) {
         Err(_) => Some(End::WriteFault),
         Ok(()) if request.close => Some(End::Closed),
         Ok(()) => None,
     }
 }
 
-/// Puts out two pieces of bytes, one after the other. After an `Err` only a part of them is out, from their beginning
-/// on.
-fn write_parts<L: Link>(link: &mut L, front: &[u8], rest: &[u8]) -> Result<(), WriteFault>
-    ensures ok { OnOk result (L.out link.new ≡ extended (L.out link.old) (front.now ++ rest.now)) }
-    ensures err { OnErr result ((k : ℕ) × (k < length (front.now ++ rest.now))
-        × (L.out link.new ≡ extended (L.out link.old) (take k (front.now ++ rest.now)))) }
+/// Puts out bytes, and then those of a body: small parts of it together, large ones alone. After an `Err` only a part
+/// of them is out, from their beginning on. Takes no memory but to gather small parts, and does without where there is
+/// none.
+fn write_parts<L: Link>(link: &mut L, front: Vec<u8>, rest: &Body) -> Result<(), WriteFault>
+    ensures ok { OnOk result (L.out link.new ≡ extended (L.out link.old) (front.items ++ rest.now)) }
+    ensures err { OnErr result (BreaksOff (L.out link.old) (front.items ++ rest.now) (L.out link.new)) }
     ensures counted { L.failed_writes link.new ≡ count_after result (L.failed_writes link.old) }
     ensures left { L.left link.new ≡ L.left link.old }
     ensures failed_reads { L.failed_reads link.new ≡ L.failed_reads link.old }
 {
-    write_all(link, front)?;
-    write_all(link, rest)
+    let mut parts = rest.parts();
+    let mut gathered = front;
+    while let Some(part) = parts.next() {
+        gathered = write_behind(link, gathered, part)?;
+    }
+    write_all(link, &gathered)
+}
+
+/// Puts a part behind bytes that aren't out yet, and gives those of both that aren't out then.
+fn write_behind<L: Link>(
+    link: &mut L,
+    gathered: Vec<u8>,
+    part: &[u8],
+) -> Result<Vec<u8>, WriteFault>
+    ensures ok { IfOk result (λ left.
+        IsOutTo (L.out link.old) (gathered.items ++ part.now) (L.out link.new) left.items) }
+    ensures err { OnErr result (BreaksOff (L.out link.old) (gathered.items ++ part.now) (L.out link.new)) }
+    ensures counted { L.failed_writes link.new ≡ count_after result (L.failed_writes link.old) }
+    ensures left { L.left link.new ≡ L.left link.old }
+    ensures failed_reads { L.failed_reads link.new ≡ L.failed_reads link.old }
+{
+    let mut left = match together(gathered, part) {
+        Ok(both) => return Ok(both),
+        Err(gathered) => gathered,
+    };
+    write_all(link, &left)?;
+    left.clear();
+    match together(left, part) {
+        Ok(part) => Ok(part),
+        Err(none) => {
+            write_all(link, part)?;
+            Ok(none)
+        }
+    }
+}
+
+/// Bytes with a part behind them, where both are few enough to go out together and there is memory for it; else the
+/// bytes alone.
+fn together(bytes: Vec<u8>, part: &[u8]) -> Result<Vec<u8>, Vec<u8>>
+    ensures ok { IfOk result (λ both. both.items ≡ bytes.items ++ part.now) }
+    ensures err { IfErr result (λ same. same.items ≡ bytes.items) }
+{
+    let mut both = bytes;
+    let room = MOST_GATHERED.saturating_sub(both.len());
+    if part.len() <= room && both.extend_from_slice(part).is_ok() {
+        return Ok(both);
+    }
+    Err(both)
 }

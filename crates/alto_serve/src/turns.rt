@@ -14,7 +14,7 @@ use crate::office::{Looks, Office};
 use alto_answers::{Answer, Client, answer};
 use alto_desk::{Command, EditFault, Receipt};
 use alto_http::Request;
-use alto_replies::{Reply, edit_reply, reply_parts, too_early};
+use alto_replies::{Body, Reply, edit_reply, reply_parts, too_early};
 use std::alloc::{AllocError, Global};
 
 /// What a request comes to at a look, and the number of the book that was looked at.
@@ -32,9 +32,9 @@ pub(crate) fn answered<F: Office, C: Clock>(
     clock: &C,
     request: &Request,
     most_waits: u32,
-) -> Result<(Vec<u8>, Vec<u8>), AllocError>
+) -> Result<(Vec<u8>, Body), AllocError>
     ensures ok { IfOk result (λ parts. Emits F.alone (RepliesWith
-        (setting_of client.now (C.tells clock.now) F.alone most_waits) request.now (parts.0.items ++ parts.1.items))
+        (setting_of client.now (C.tells clock.now) F.alone most_waits) request.now (parts.0.items ++ parts.1))
         (F.known office.old) (F.known office.new)) }
     ensures err { OnErr result (Emits F.alone
         (IsCutOff (setting_of client.now (C.tells clock.now) F.alone most_waits) request.now)

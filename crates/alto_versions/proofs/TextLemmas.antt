@@ -2,6 +2,7 @@
 use Rattle.std.proofs.Common.{◌≡◌, refl, ap, sym, ◌∙◌, length, subst, arith}
 use Rattle.std.proofs.lemmas.List.{append-nil, append_assoc}
 use Rattle.std.specs.Prelude.{Bool, true, false, ◌||◌, List, [], ◌∷◌, ◌++◌, map, Option, Some, None, IfSome}
+use Rattle.std.specs.Prelude.{option_map}
 use Rattle.std.specs.BTreeMap.{is_at}
 use Rattle.std.specs.List.{list_any}
 use Rattle.std.specs.Ordering.{is_eq}
@@ -167,6 +168,13 @@ none_found rows of texts had is =
     sym (resources_found rows of)
     ∙ none_told (map_pieces rows) (resources_of rows) of (ap (λ texts. text_in texts of) (sym had.whole) ∙ sym is) in
     rw not_declared refl
+
+-- so what is found, whatever has the pieces, is the text of a declared resource's document
+pub found_told : {A : Type 0} (rows : Rows) (of : Resource) (texts : List MapText) (pieces : A → Pieces)
+    (found : Option A) → AreTextsOf rows texts → option_map pieces found ≡ text_in texts of
+    → option_map (λ at. text_of (pieces at)) found ≡ declared_text rows of
+found_told rows of texts pieces None had is = none_found rows of texts had is
+found_told rows of texts pieces (Some at) had is = text_found rows of texts (pieces at) had is
 
 -- one resource more has its text
 pub text_step : (rows : Rows) (done more : List MapText) (ofs rest : List Resource) (of : Resource) (text : Pieces)

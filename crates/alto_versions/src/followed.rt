@@ -110,8 +110,8 @@ impl<R: RowStore> Followed<R> {
     }
 
     /// The pieces of the document at a number, where they are kept. Linear in the numbers that keep texts.
-    pub fn document(&self, of: &Resource, number: u64) -> Option<&Pieces>
-        ensures { IfSome result (λ pieces. IsDocumentAt self.now of.now number pieces.now) }
+    pub fn document(&self, of: &Resource, number: u64) -> Option<&Arc<Pieces>>
+        ensures { IfSome result (λ pieces. IsDocumentAt self.now of.now number (arc_value pieces.now)) }
     {
         Some(&self.texts_at(of, number)?.document)
     }

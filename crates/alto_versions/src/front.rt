@@ -1,7 +1,9 @@
-ghost use Rattle.std.specs.Prelude.{◌≡◌, ◌<◌, ◌^◌, IfOk, option_map, vec_items};
+ghost use Rattle.std.specs.Prelude.{◌≡◌, ◌<◌, ◌^◌, IfOk, option_map};
+ghost use Rattle.std.specs.Arc.{arc_value};
 ghost use Rattle.alto_rows.specs.Good.{AreGood};
 ghost use Rattle.alto_rows.specs.Rows.{after};
 ghost use Rattle.cost_tables.specs.Tables.{AreCostsOf};
+ghost use Rattle.doc_pieces.specs.Pieces.{text_of};
 ghost use Rattle.alto_book.specs.Book.{Book};
 ghost use Rattle.alto_book.specs.Legal.{IsLegal};
 ghost use Rattle.alto_book.specs.Acceptance.{with_batch};
@@ -98,15 +100,12 @@ impl<R: RowStore> Front<R> {
         &self.costs
     }
 
-    /// The text of a resource's document, where the resource is declared. Costs one pass over the declared resources,
-    /// and the copying of the text.
-    pub fn text(&self, alloc: Global, of: &Resource) -> Result<Option<Vec<u8>>, AllocError>
-        ensures { IfOk result (λ text. option_map vec_items text ≡ declared_text self.now.rows of.now) }
+    /// The pieces of the text of a resource's document, where the resource is declared. One pass over the declared
+    /// resources.
+    pub fn text(&self, of: &Resource) -> Option<&Arc<Pieces>>
+        ensures { option_map (λ pieces. text_of (arc_value pieces.now)) result ≡ declared_text self.now.rows of.now }
     {
-        match text_of(&self.texts, of) {
-            Some(pieces) => Ok(Some(pieces.text(alloc)?)),
-            None => Ok(None),
-        }
+        text_of(&self.texts, of)
     }
 
     /// The version after one batch more. It shares what the batch left.

@@ -1,4 +1,5 @@
-pub mod TextLemmas
 pub mod NameLemmas
+pub mod TextLemmas
+pub mod PartLemmas
 pub mod PlaceLemmas
 pub mod RenewedLemmas

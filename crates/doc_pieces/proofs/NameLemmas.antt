@@ -21,13 +21,16 @@ names_of-in_order : (names : List Name) → names_of (in_order names) ≡ names
 names_of-in_order [] = refl
 names_of-in_order (n ∷ names) = ap (λ ns. n ∷ ns) (names_of-in_order names)
 
-pub same_names : (names others : List Name) → Rise names → Rise others → ((q : Name) → list_any (same_name q) names ≡ list_any (same_name q) others) → names ≡ others
+pub same_names : (names others : List Name) → Rise names → Rise others
+    → ((q : Name) → list_any (same_name q) names ≡ list_any (same_name q) others) → names ≡ others
 same_names names others rise rise' same =
     let one_object : named (λ _. null) names ≡ named (λ _. null) others =
     same_members _ _ (in_order-named (λ _. null) names) (in_order-named (λ _. null) others)
-    (λ q. found-named (λ _. null) names q ∙ (ap (λ b. cond b (Some null) None) (same q) ∙ sym (found-named (λ _. null) others q))) in
+    (λ q. found-named (λ _. null) names q
+    ∙ (ap (λ b. cond b (Some null) None) (same q) ∙ sym (found-named (λ _. null) others q))) in
     sym (names_of-in_order names)
-    ∙ (ap names_of (sym (named-rising (λ _. null) names rise) ∙ (one_object ∙ named-rising (λ _. null) others rise')) ∙ names_of-in_order others)
+    ∙ (ap names_of (sym (named-rising (λ _. null) names rise) ∙ (one_object ∙ named-rising (λ _. null) others rise'))
+    ∙ names_of-in_order others)
 
 -- names that rise are their set
 pub set_of-rising : (names : List Name) → Rise names → set_of names ≡ names
@@ -37,10 +40,13 @@ or_true : (b : Bool) → (b || true) ≡ true
 or_true true = refl
 or_true false = refl
 
-each_passes : (p : Name → Bool) (names : List Name) → ((q : Name) → list_any (same_name q) names ≡ true → p q ≡ true) → AllByRecursion (λ q. p q ≡ true) names
+each_passes : (p : Name → Bool) (names : List Name) → ((q : Name) → list_any (same_name q) names ≡ true → p q ≡ true)
+    → AllByRecursion (λ q. p q ≡ true) names
 each_passes p [] passes = tt
-each_passes p (n ∷ names) passes = (passes n (rw (itself n) refl), each_passes p names (λ q there. passes q (rw there (or_true (same_name q n)))))
+each_passes p (n ∷ names) passes =
+    (passes n (rw (itself n) refl), each_passes p names (λ q there. passes q (rw there (or_true (same_name q n)))))
 
 -- each group of a map stands
 pub groups_stand : (face : Face) → All (λ g. stands face g ≡ true) (set_of face.groups)
-groups_stand face = All-from_recursion _ (set_of face.groups) (each_passes (stands face) (set_of face.groups) (λ q there. sym (any-set_of q face.groups) ∙ there))
+groups_stand face = All-from_recursion _ (set_of face.groups)
+    (each_passes (stands face) (set_of face.groups) (λ q there. sym (any-set_of q face.groups) ∙ there))

@@ -18,17 +18,21 @@ unfolding set_of
 none_touched = refl
 
 -- a place in no group
-pub touched_same : (places : List Place) (at : Place) → group_of at ≡ None → touched_groups places ≡ touched_groups (places ++ at ∷ [])
+pub touched_same : (places : List Place) (at : Place) → group_of at ≡ None
+    → touched_groups places ≡ touched_groups (places ++ at ∷ [])
 touched_same places at none =
-    ap set_of (sym (append-nil (filter_map group_of places)) ∙ sym (filter_map-append group_of places (at ∷ []) ∙ rw none refl))
+    ap set_of (sym (append-nil (filter_map group_of places))
+    ∙ sym (filter_map-append group_of places (at ∷ []) ∙ rw none refl))
 
 -- a place in a group
-pub touched_more : (places : List Place) (at : Place) (name : Name) (old new : List Name) → old ≡ touched_groups places → group_of at ≡ Some name
+pub touched_more : (places : List Place) (at : Place) (name : Name) (old new : List Name) → old ≡ touched_groups places
+    → group_of at ≡ Some name
     → new ≡ insert_key (slice_cmp nat_cmp) old name → new ≡ touched_groups (places ++ at ∷ [])
 touched_more places at name old new so_far is put =
     put
     ∙ (ap (λ names. insert_key (slice_cmp nat_cmp) names name) so_far
-    ∙ sym (ap set_of (filter_map-append group_of places (at ∷ []) ∙ rw is refl) ∙ set_of-push (filter_map group_of places) name))
+    ∙ sym (ap set_of (filter_map-append group_of places (at ∷ []) ∙ rw is refl)
+    ∙ set_of-push (filter_map group_of places) name))
 
 -- ---- places that touch nothing
 

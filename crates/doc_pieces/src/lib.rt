@@ -11,6 +11,7 @@
 mod frame;
 mod grouped;
 mod laws;
+mod parts;
 mod piece;
 mod pieces;
 mod renewing;
@@ -18,4 +19,5 @@ mod touched;
 
 pub use grouped::Grouped;
 pub use laws::{pieces_make_the_document, untouched_pieces_stay};
+pub use parts::Parts;
 pub use pieces::Pieces;

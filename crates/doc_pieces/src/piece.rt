@@ -1,4 +1,4 @@
-ghost use Rattle.std.specs.Prelude.{◌≡◌, true, IfOk};
+ghost use Rattle.std.specs.Prelude.{◌≡◌, ◌++◌, codes, true, IfOk};
 ghost use Rattle.std.specs.Arc.{arc_value};
 ghost use Rattle.alto_maps.specs.Shape.{stands};
 ghost use Rattle.doc_pieces.specs.Pieces.{piece_of};
@@ -10,19 +10,39 @@ use std::alloc::{AllocError, Global};
 use std::marker::Model;
 use std::sync::Arc;
 
-/// A group's name, and its text as a member. A contract sees both.
+/// A group's name, and its text as a member. A contract sees both. The text is kept behind a comma, so that most groups
+/// are put behind another in one piece.
 #[derive(Drop)]
 pub(crate) struct Piece {
     pub(crate) name: Name,
-    pub(crate) text: Vec<u8>,
+    behind_comma: Vec<u8>,
 }
 
 impl Model for Piece {
+    ghost use Rattle.std.specs.Prelude.{◌≡◌, codes, drop, take};
     ghost use Rattle.doc_pieces.specs.Pieces.{Piece};
 
     ghost Value = { Piece };
 
-    ghost view = { λ piece. (piece.name, piece.text.items) };
+    ghost view = { λ piece. (piece.name, drop 1 piece.behind_comma.items) };
+
+    ghost invariant = { λ piece. take 1 piece.behind_comma.items ≡ codes "," };
+}
+
+impl Piece {
+    /// The text.
+    pub(crate) fn text(&self) -> &[u8]
+        ensures { result.now ≡ self.now.1 }
+    {
+        &self.behind_comma[1..]
+    }
+
+    /// The text behind a comma.
+    pub(crate) fn behind_comma(&self) -> &[u8]
+        ensures { result.now ≡ codes "," ++ self.now.1 }
+    {
+        &self.behind_comma
+    }
 }
 
 /// The piece of a group that stands, written anew, with no spare room.
@@ -34,9 +54,11 @@ pub(crate) fn written<M: Grouped>(
     requires { stands (M.face source.now) name ≡ true }
     ensures { IfOk result (λ piece. arc_value piece ≡ piece_of (M.face source.now) name) }
 {
-    let mut out = Writer::new(Vec::new(alloc));
+    let mut text = Vec::new(alloc);
+    text.push(b',')?;
+    let mut out = Writer::new(text);
     source.write_group(alloc, &name, &mut out)?;
-    let mut text = out.into_inner();
-    text.shrink_to_fit();
-    Ok(Arc::new(alloc, Piece { name, text })?)
+    let mut behind_comma = out.into_inner();
+    behind_comma.shrink_to_fit();
+    Ok(Arc::new(alloc, Piece { name, behind_comma })?)
 }

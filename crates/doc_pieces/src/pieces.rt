@@ -1,13 +1,15 @@
-ghost use Rattle.std.specs.Prelude.{◌≡◌, ◌++◌, true, All, IfOk, OnOk, codes, map};
+ghost use Rattle.std.specs.Prelude.{◌≡◌, ◌+◌, ◌++◌, true, All, IfOk, OnOk, codes, length, map};
 ghost use Rattle.std.specs.Arc.{arc_value};
 ghost use Rattle.std.specs.List.{flat_map};
 ghost use Rattle.alto_maps.specs.Differ.{DifferAt};
 ghost use Rattle.alto_maps.specs.Shape.{Face, stands};
+ghost use Rattle.doc_pieces.specs.Parts.{whole};
 ghost use Rattle.doc_pieces.specs.Pieces.{joined, pieces_of, text_of};
 ghost use Rattle.doc_pieces.specs.Pieces as spec;
 
 use crate::frame::{beginning, ending, meta_text};
 use crate::grouped::Grouped;
+use crate::parts::Parts;
 use crate::piece::{Piece, written};
 use crate::renewing::renewed_groups;
 use alto_maps::{Place, Walked};
@@ -70,20 +72,38 @@ impl Pieces {
     pub fn text(&self, alloc: Global) -> Result<Vec<u8>, AllocError>
         ensures { IfOk result (λ text. text.items ≡ text_of self.now) }
     {
-        let mut text = Vec::with_capacity(alloc, self.len())?;
-        text.extend_from_slice(&self.beginning)?;
-        join(&self.groups, &mut text)?;
-        text.extend_from_slice(&self.ending)?;
+        let mut text = Vec::with_capacity(alloc, self.len()?)?;
+        self.append_to(&mut text)?;
         Ok(text)
     }
 
-    /// The length of the text, unless that is more than there is room for.
-    fn len(&self) -> usize {
-        let mut len = self.beginning.len().saturating_add(self.ending.len());
-        for piece in &self.groups {
-            len = len.saturating_add(piece.text.len()).saturating_add(1);
-        }
-        len
+    /// Puts the text of the document at the end. Costs the copying of its bytes.
+    pub fn append_to(&self, text: &mut Vec<u8>) -> Result<(), AllocError>
+        ensures { OnOk result (text.new.items ≡ text.old.items ++ text_of self.now) }
+    {
+        text.extend_from_slice(&self.beginning)?;
+        join(&self.groups, text)?;
+        text.extend_from_slice(&self.ending)
+    }
+
+    /// The length of the text. One pass over the groups.
+    ///
+    /// # Errors
+    ///
+    /// Where no memory could hold the text.
+    pub fn len(&self) -> Result<usize, AllocError>
+        ensures { IfOk result (λ len. len ≡ length (text_of self.now)) }
+    {
+        let ends = sum(self.beginning.len(), self.ending.len())?;
+        sum(ends, joined_len(&self.groups)?)
+    }
+
+    /// The text part by part, none of which is copied: what stands before the groups, each group, and what stands
+    /// behind them.
+    pub fn parts(&self) -> Parts<'_>
+        ensures { whole result ≡ text_of self.now }
+    {
+        Parts::new(&self.beginning, &self.groups, &self.ending)
     }
 }
 
@@ -129,6 +149,27 @@ fn written_each<M: Grouped>(
     Ok(groups)
 }
 
+/// The length of the texts of groups with a comma between each two.
+fn joined_len(groups: &[Arc<Piece>]) -> Result<usize, AllocError>
+    ensures { IfOk result (λ len. len ≡ length (joined (map arc_value groups.now))) }
+{
+    let Some((first, rest)) = groups.split_first() else {
+        return Ok(0);
+    };
+    let mut len = first.text().len();
+    for piece in rest {
+        len = sum(len, piece.behind_comma().len())?;
+    }
+    Ok(len)
+}
+
+/// The sum of two lengths, where memory has so many places.
+fn sum(a: usize, b: usize) -> Result<usize, AllocError>
+    ensures { IfOk result (λ sum. sum ≡ a + b) }
+{
+    a.checked_add(b).ok_or(AllocError)
+}
+
 /// Puts the texts of groups at the end, with a comma between each two.
 fn join(groups: &[Arc<Piece>], text: &mut Vec<u8>) -> Result<(), AllocError>
     ensures { OnOk result (text.new.items ≡ text.old.items ++ joined (map arc_value groups.now)) }
@@ -136,7 +177,7 @@ fn join(groups: &[Arc<Piece>], text: &mut Vec<u8>) -> Result<(), AllocError>
     let Some((first, rest)) = groups.split_first() else {
         return Ok(());
     };
-    text.extend_from_slice(&first.text)?;
+    text.extend_from_slice(first.text())?;
     append(rest, text)
 }
 
@@ -146,8 +187,7 @@ fn append(groups: &[Arc<Piece>], text: &mut Vec<u8>) -> Result<(), AllocError>
         ++ flat_map (λ piece. codes "," ++ piece.1) (map arc_value groups.now)) }
 {
     for piece in groups {
-        text.push(b',')?;
-        text.extend_from_slice(&piece.text)?;
+        text.extend_from_slice(piece.behind_comma())?;
     }
     Ok(())
 }

@@ -104,8 +104,9 @@ returns-clause-reply g c =
     let here = here_too _ _ _ _ c.args.i c.args.j c.requires.1 is c.requires.2 in
     let low = low_of_span _ _ _ _ _ _ is span in
     made
+    ∙ (ap (λ body. ok_reply c.patch_type.result.now body) c.of_bytes.ensures
     ∙ (ap (λ kind. ok_reply kind c.match-patch.patch.items) c.patch_type.ensures
     ∙ (patch_replied c.args.form c.args.resource.now earlier later keys c.match-patch.patch.items text
     ∙ patched _ _ _ c.args.form _ _ _ _ _ is here (rows_begin _ _ _ c.args.i c.args.j _ is here low from)
-    (rows_here _ _ _ c.args.i c.args.j _ is here to) span)))
+    (rows_here _ _ _ c.args.i c.args.j _ is here to) span))))
     c.ok_reply-2.ensures.reply

@@ -9,8 +9,8 @@ newest_reply-requires g c =
     let rows = ap g.R.RowStore.rows c.deref.ensures ∙ ap (λ (version : Version). version.rows) c.front.view_is in
     named_declared c.args.front.now.rows c.args.text.now c.in-Some.of (sym c.in-Some.is ∙ rw rows at c.in_ok-of.ensures)
 
-pub returns-in-None : goal.returns-in-None
-returns-in-None g c =
+pub returns-in-None-clause-reply : goal.returns-in-None-clause-reply
+returns-in-None-clause-reply g c =
     let rows = ap g.R.RowStore.rows c.deref.ensures ∙ ap (λ (version : Version). version.rows) c.front.view_is in
     let none : resource_named c.args.front.now.rows c.args.text.now ≡ None = sym (rw rows at c.in_ok-of.ensures)
     ∙ c.in-None.is in

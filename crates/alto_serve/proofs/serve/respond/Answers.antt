@@ -1,6 +1,5 @@
-use Rattle.std.proofs.Common.{◌∙◌, ◌≡◌, ◌++◌, true, ap, ap₂, sym, take, None}
+use Rattle.std.proofs.Common.{◌∙◌, ◌≡◌, true, ap, sym, None}
 use Rattle.alto_http.specs.Request.{RequestData}
-use Rattle.alto_http.specs.Link.{extended}
 use Rattle.alto_serve.specs.Connections.{state}
 use Rattle.alto_serve.proofs.StepLemmas.{memory_ends, reply_breaks, reply_closes, reply_out}
 use Rattle.alto_serve.proofs.serve.respond.Goals as goal
@@ -14,21 +13,16 @@ pub returns-in-Err-clause-ended : goal.returns-in-Err-clause-ended
 returns-in-Err-clause-ended g c =
     let cut = c.in-Err.ensures.err in
     λ rest behind begins. reply_breaks _ _ (state _ None _) _ rest behind begins _ cut.0 c.in-Ok.ensures.ok
-    (cut.2 ∙ ap (λ bytes. extended (g.L.Link.out c.args.link.now) (take cut.0 bytes))
-    (ap₂ (λ front rest. front ++ rest) c.deref.ensures.value c.deref-2.ensures.value))
+    cut.2
 
 pub returns-in-Ok-write_parts-clause-ended : goal.returns-in-Ok-write_parts-clause-ended
 returns-in-Ok-write_parts-clause-ended g c =
     let closes : c.args.request.now.close ≡ true =
     ap (λ (r : RequestData). r.close) (sym c.request.view_is) ∙ c.if-request.true in
     λ rest behind begins. reply_closes _ _ (state _ None _) _ rest behind begins _ closes c.in-Ok.ensures.ok
-    (c.in-Ok-write_parts.ensures.ok
-    ∙ ap (λ bytes. extended (g.L.Link.out c.args.link.now) bytes)
-    (ap₂ (λ front rest. front ++ rest) c.deref.ensures.value c.deref-2.ensures.value))
+    c.in-Ok-write_parts.ensures.ok
 
 pub returns-clause-on : goal.returns-clause-on
 returns-clause-on g c =
     λ none. reply_out _ _ (state _ None _) (state _ None _) _ c.in-Ok.ensures.ok
-    (c.in-Ok-write_parts.ensures.ok
-    ∙ ap (λ bytes. extended (g.L.Link.out c.args.link.now) bytes)
-    (ap₂ (λ front rest. front ++ rest) c.deref.ensures.value c.deref-2.ensures.value))
+    c.in-Ok-write_parts.ensures.ok

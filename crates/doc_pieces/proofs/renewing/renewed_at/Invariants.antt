@@ -7,4 +7,5 @@ use Rattle.doc_pieces.proofs.renewing.renewed_at.Given as goal
 abbrev pub invariant-loop-name : goal.invariant-loop-name
 invariant-loop-name g l =
     let face = g.M.MapSource.face l.source in
-    map arc_value l.renewed.items ++ renewed face (drop l.name-index l.names) (map arc_value l.left) ≡ renewed face l.names (map arc_value l.groups)
+    map arc_value l.renewed.items ++ renewed face (drop l.name-index l.names) (map arc_value l.left)
+    ≡ renewed face l.names (map arc_value l.groups)

@@ -10,6 +10,8 @@ returns g c =
     IfOk-weaker c.framed.result _ _
     (λ pieces is earlier had differ.
     is
-    ∙ pieces_renewed g.M.MapSource.shape earlier (g.M.MapSource.face c.args.source.now) c.args.places.now c.args.self.now _ _ had differ
-    (ap (map arc_value) c.deref.ensures.value ∙ ap (λ (pieces : Pieces). pieces.groups) c.self.view_is) c.in_ok-groups.ensures)
+    ∙ pieces_renewed g.M.MapSource.shape earlier (g.M.MapSource.face c.args.source.now) c.args.places.now
+    c.args.self.now _ _ had differ
+    (ap (map arc_value) c.deref.ensures.value ∙ ap (λ (pieces : Pieces). pieces.groups) c.self.view_is)
+    c.in_ok-groups.ensures)
     c.framed.ensures
