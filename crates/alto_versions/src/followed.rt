@@ -70,7 +70,7 @@ impl<R: RowStore> Followed<R> {
         alloc: Global,
         of: &Resource,
         rows: &Arc<R>,
-        keys: &[Key],
+        keys: Vec<Key>,
         document: Option<&Arc<Pieces>>,
     ) -> Result<Followed<R>, AllocError>
         requires room { self.now.last < 2 ^ 63 - 1 }
@@ -79,7 +79,7 @@ impl<R: RowStore> Followed<R> {
         requires document { IfSome (option_map (λ pieces. arc_value pieces.now) document)
             (λ pieces. pieces ≡ map_pieces (R.rows (arc_value rows.now)) of.now) }
         ensures { IfOk result (λ followed. followed
-            ≡ with_push self.now (record { rows = R.rows (arc_value rows.now); keys = key_set keys.now })) }
+            ≡ with_push self.now (record { rows = R.rows (arc_value rows.now); keys = key_set keys.items })) }
     {
         let graph = self.graph.push(alloc, rows, keys)?;
         let mut texts = self.still_kept(alloc, of, graph.first())?;

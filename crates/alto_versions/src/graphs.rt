@@ -170,7 +170,7 @@ fn pushed<R: RowStore>(
         ≡ with_push graph.now (push_after of.now (R.rows (arc_value rows.now)) writes.now)) }
 {
     let keys = touching(alloc, of, writes)?;
-    Ok(Arc::new(alloc, graph.push(alloc, of, rows, &keys, text)?)?)
+    Ok(Arc::new(alloc, graph.push(alloc, of, rows, keys, text)?)?)
 }
 
 /// The version that a resource has reached. One search.

@@ -10,7 +10,7 @@ fn a_push_shares_its_rows_and_leaves_the_graph(rt: HostRuntime) -> Result<(), Fa
     let alloc = rt.alloc();
     let before = Graph::<PlainRows>::empty(alloc, 2)?;
     let rows = Arc::new(alloc, PlainRows::empty(alloc)?)?;
-    let after = before.push(alloc, &rows, &[Key::Window, Key::Epoch])?;
+    let after = before.push(alloc, &rows, [Key::Window, Key::Epoch].to_vec(alloc)?)?;
     assert_eq!(rt; (before.last(), after.last()), (0, 1));
     assert_eq!(rt; Arc::strong_count(&rows), 2);
     Ok(())
@@ -20,8 +20,12 @@ fn a_push_shares_its_rows_and_leaves_the_graph(rt: HostRuntime) -> Result<(), Fa
 fn a_cut_leaves_the_later_numbers(rt: HostRuntime) -> Result<(), Fail> {
     let alloc = rt.alloc();
     let rows = Arc::new(alloc, PlainRows::empty(alloc)?)?;
-    let first = Graph::<PlainRows>::resume(alloc, 8, 4)?.push(alloc, &rows, &[Key::Epoch])?;
-    let second = first.push(alloc, &rows, &[Key::Window])?;
+    let first = Graph::<PlainRows>::resume(alloc, 8, 4)?.push(
+        alloc,
+        &rows,
+        [Key::Epoch].to_vec(alloc)?,
+    )?;
+    let second = first.push(alloc, &rows, [Key::Window].to_vec(alloc)?)?;
     let cut = second.cut(alloc, 6, &rows)?;
     assert_eq!(rt; (second.first(), second.last()), (5, 6));
     assert_eq!(rt; (cut.first(), cut.last()), (6, 6));
@@ -53,11 +57,15 @@ fn keys_of(rt: &HostRuntime, graph: &Graph<PlainRows>, i: u64, j: u64) -> Result
 fn an_edge_over_many_keys_has_those_of_its_steps(rt: HostRuntime) -> Result<(), Fail> {
     let alloc = rt.alloc();
     let rows = Arc::new(alloc, PlainRows::empty(alloc)?)?;
-    let start = Graph::<PlainRows>::resume(alloc, 8, 3)?.push(alloc, &rows, &[Key::Epoch])?;
-    let fifth = start.push(alloc, &rows, &pid_keys(&rt, "a")?)?;
-    let sixth = fifth.push(alloc, &rows, &pid_keys(&rt, "b")?)?;
-    let seventh = sixth.push(alloc, &rows, &pid_keys(&rt, "a")?)?;
-    let graph = seventh.push(alloc, &rows, &pid_keys(&rt, "c")?)?;
+    let start = Graph::<PlainRows>::resume(alloc, 8, 3)?.push(
+        alloc,
+        &rows,
+        [Key::Epoch].to_vec(alloc)?,
+    )?;
+    let fifth = start.push(alloc, &rows, pid_keys(&rt, "a")?)?;
+    let sixth = fifth.push(alloc, &rows, pid_keys(&rt, "b")?)?;
+    let seventh = sixth.push(alloc, &rows, pid_keys(&rt, "a")?)?;
+    let graph = seventh.push(alloc, &rows, pid_keys(&rt, "c")?)?;
     assert_eq!(rt; keys_of(&rt, &graph, 4, 5)?, 600);
     assert_eq!(rt; keys_of(&rt, &graph, 4, 6)?, 1_200);
     assert_eq!(rt; keys_of(&rt, &graph, 6, 8)?, 1_200);

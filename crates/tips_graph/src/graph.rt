@@ -73,12 +73,12 @@ impl<R: RowStore> Graph<R> {
     /// The graph with one number more: the rows at it, and the keys that were written for it, in any order. It shares
     /// the rows and all that it keeps of this graph.
     ///
-    /// Costs n comparisons of the n keys where they rise, else n log n, and their copies; a comparison and a copy for
+    /// Costs n comparisons of the n keys where they rise, else n log n and as many copies; a comparison and a copy for
     /// each key of the longer edges with few keys that end at the number; and one pointer for each kept number.
-    pub fn push(&self, alloc: Global, rows: &Arc<R>, keys: &[Key]) -> Result<Graph<R>, AllocError>
+    pub fn push(&self, alloc: Global, rows: &Arc<R>, keys: Vec<Key>) -> Result<Graph<R>, AllocError>
         requires { self.now.last < 2 ^ 63 - 1 }
         ensures { IfOk result (λ graph. graph
-            ≡ with_push self.now (record { rows = R.rows (arc_value rows.now); keys = key_set keys.now })) }
+            ≡ with_push self.now (record { rows = R.rows (arc_value rows.now); keys = key_set keys.items })) }
     {
         let step = Arc::new(alloc, self.next_step(alloc, rows, keys)?)?;
         let forgotten = (self.kept.len() + 1).saturating_sub(self.window as usize);
@@ -229,10 +229,10 @@ impl<R: RowStore> Graph<R> {
     }
 
     /// What the next push keeps: its rows, its distinct keys, and the lists of the longer edges that end at it.
-    fn next_step(&self, alloc: Global, rows: &Arc<R>, keys: &[Key]) -> Result<Step<R>, AllocError>
+    fn next_step(&self, alloc: Global, rows: &Arc<R>, keys: Vec<Key>) -> Result<Step<R>, AllocError>
         requires { self.now.last < 2 ^ 63 - 1 }
         ensures push { IfOk result (λ step. push_of step
-            ≡ record { rows = R.rows (arc_value rows.now); keys = key_set keys.now }) }
+            ≡ record { rows = R.rows (arc_value rows.now); keys = key_set keys.items }) }
         ensures lists { IfOk result (λ step.
             HasLists (before_kept self.now) (self.now.kept ++ push_of step ∷ []) (self.now.last + 1) step) }
     {

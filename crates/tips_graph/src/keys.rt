@@ -7,17 +7,29 @@ use alto_rows::Key;
 use std::alloc::{AllocError, Global};
 use std::cmp::Ordering;
 
-/// The distinct keys, in their order. One comparison a key where they rise, else n log n comparisons: both halves are
-/// made so, and merged.
-pub(crate) fn distinct_keys(alloc: Global, keys: &[Key]) -> Result<Vec<Key>, AllocError>
+/// The distinct keys, in their order. Where they rise, these are they, and cost one comparison a key; else n log n
+/// comparisons and copies.
+pub(crate) fn distinct_keys(alloc: Global, keys: Vec<Key>) -> Result<Vec<Key>, AllocError>
+    ensures { IfOk result (λ distinct. distinct.items ≡ key_set keys.items) }
+{
+    if !are_rising(&keys) {
+        return distinct_copies(alloc, &keys);
+    }
+    let mut distinct = keys;
+    distinct.shrink_to_fit();
+    Ok(distinct)
+}
+
+/// Copies of the distinct keys, in their order. Where the keys don't rise, both halves are made so, and merged.
+fn distinct_copies(alloc: Global, keys: &[Key]) -> Result<Vec<Key>, AllocError>
     ensures { IfOk result (λ distinct. distinct.items ≡ key_set keys.now) }
 {
     if are_rising(keys) {
         return copies_of(alloc, keys);
     }
     let (front, back) = keys.split_at(keys.len() / 2);
-    let older = distinct_keys(alloc, front)?;
-    let newer = distinct_keys(alloc, back)?;
+    let older = distinct_copies(alloc, front)?;
+    let newer = distinct_copies(alloc, back)?;
     merged(alloc, &older, &newer)
 }
 

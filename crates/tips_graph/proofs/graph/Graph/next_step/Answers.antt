@@ -26,7 +26,7 @@ returns-clause-lists g c =
     IsListIfKept (before_kept graph) (graph.kept ++ push ∷ []) (graph.last + 1) stride list in
     let one : IsListOfEdge (before_kept graph) (graph.kept ++ push ∷ []) (graph.last + 1) 1 step.keys =
     list_one (before_kept graph) graph.kept push (graph.last + 1) (omega (arith, c.doubled.ensures.sound.numbered))
-    (set_again step.keys c.args.keys.now c.in_ok-keys.ensures) in
+    (set_again step.keys c.args.keys.items c.in_ok-keys.ensures) in
     let ones : Has 1 (Some step.keys) =
     list_kept (before_kept graph) (graph.kept ++ push ∷ []) (graph.last + 1) 1 step.keys one in
     let twos : Has 2 step.twos =

@@ -20,7 +20,7 @@ step g c = arc_value c.in_ok-step.step
 
 -- the push of the new one
 push_is : (g : Over) (c : In_ok-push g)
-    → push_of (step g c) ≡ made (g.R.RowStore.rows (arc_value c.args.rows.now)) (key_set c.args.keys.now)
+    → push_of (step g c) ≡ made (g.R.RowStore.rows (arc_value c.args.rows.now)) (key_set c.args.keys.items)
 push_is g c = ap push_of c.in_ok-step.ensures.ok ∙ c.in_ok-next_step.ensures.push
 
 -- how many are forgotten
@@ -50,7 +50,7 @@ invariant_of-result g c =
     pushed_stand c.self.inside.window c.self.inside.last (steps g c) (step g c) c.saturating_sub-forgotten.result
     (map arc_value c.push.new.self.items) c.self.invariant
     (omega (arith, c.requires, ap (λ (graph : GraphData). graph.last) c.self.view_is)) (forgotten g c) (kept g c)
-    (set_again (step g c).keys c.args.keys.now (ap (λ (push : Push). push.keys) (push_is g c)))
+    (set_again (step g c).keys c.args.keys.items (ap (λ (push : Push). push.keys) (push_is g c)))
     (subst (λ (graph : GraphData). HasLists (before_kept graph) (graph.kept ++ push_of (step g c) ∷ []) (graph.last + 1)
     (step g c)) (sym c.self.view_is) has)
 
@@ -60,4 +60,4 @@ returns g c =
     (map arc_value c.push.new.self.items) c.self.invariant.sound.at_least (forgotten g c) (kept g c)
     ∙ ap (with_push (graph_with c.self.inside.window c.self.inside.last (steps g c))) (push_is g c)
     ∙ ap (λ (graph : GraphData). with_push graph (made (g.R.RowStore.rows (arc_value c.args.rows.now))
-    (key_set c.args.keys.now))) c.self.view_is
+    (key_set c.args.keys.items))) c.self.view_is

@@ -3,7 +3,7 @@ use Rattle.std.proofs.Common.{◌≡◌, ◌∙◌}
 use Rattle.std.proofs.lemmas.Result.{IfOk-weaker}
 use Rattle.tips_graph.specs.Keys.{key_set}
 use Rattle.tips_graph.proofs.RisingLemmas.{part_set, parts_set}
-use Rattle.tips_graph.proofs.keys.+distinct_keys.Goals as goal
+use Rattle.tips_graph.proofs.keys.+distinct_copies.Goals as goal
 
 pub returns : goal.returns
 returns t c =
