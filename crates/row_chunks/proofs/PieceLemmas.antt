@@ -36,7 +36,7 @@ list_more lists list piece others whole is e =
     ∙ e
 
 -- a list of so few blocks has no more rows than they may have
-pub small_list : (blocks rows most : ℕ) → blocks ≤ 64 → rows ≤ blocks * most → rows ≤ 64 * most
+pub small_list : (blocks rows most : ℕ) → blocks ≤ 16 → rows ≤ blocks * most → rows ≤ 16 * most
 small_list blocks rows most few room =
-    let all : blocks * most ≤ 64 * most = mul-le blocks most 64 most few (omega arith) in
+    let all : blocks * most ≤ 16 * most = mul-le blocks most 16 most few (omega arith) in
     omega arith

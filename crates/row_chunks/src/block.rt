@@ -19,7 +19,7 @@ pub(crate) trait Block: Drop {
     ghost most: { ℕ };
 
     /// So many rows are in a block at least, where it is one of a list, others follow, and a write has touched it.
-    const FEW_ROWS: usize;
+    fn few_rows() -> usize;
 
     /// No rows.
     fn empty(alloc: Global) -> Self

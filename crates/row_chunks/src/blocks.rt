@@ -21,7 +21,7 @@ use std::marker::Model;
 use std::sync::Arc;
 
 /// How many blocks a list has at most, where it is itself a block of a list.
-const MOST_BLOCKS: usize = 64;
+const MOST_BLOCKS: usize = 16;
 
 /// Blocks one after another. A contract sees their rows.
 #[derive(Drop)]
@@ -44,9 +44,11 @@ impl<B: Block> Model for Blocks<B> {
 impl<B: Block> Block for Blocks<B> {
     ghost rows = { λ blocks. blocks };
 
-    ghost most = { 64 * B.most };
+    ghost most = { 16 * B.most };
 
-    const FEW_ROWS: usize = 2048;
+    fn few_rows() -> usize {
+        B::few_rows().saturating_mul(MOST_BLOCKS)
+    }
 
     fn empty(alloc: Global) -> Blocks<B> {
         Blocks {
@@ -110,6 +112,15 @@ impl<B: Block> Blocks<B> {
             blocks = blocks.with_slot(slot)?;
         }
         Ok(blocks)
+    }
+
+    /// The same blocks, with room for so many more.
+    pub(crate) fn with_room(self, more: usize) -> Result<Blocks<B>, AllocError>
+        ensures { IfOk result (λ same. same ≡ self) }
+    {
+        let Blocks { mut slots, total } = self;
+        slots.reserve(more)?;
+        Ok(Blocks { slots, total })
     }
 
     /// The blocks with others behind them.

@@ -57,7 +57,7 @@ impl<B: Block> Builder<B> {
     fn closed_if_many(self, alloc: Global) -> Result<Builder<B>, AllocError>
         ensures { IfOk result (λ same. same ≡ self) }
     {
-        if self.loose.len() < B::FEW_ROWS {
+        if self.loose.len() < B::few_rows() {
             return Ok(self);
         }
         Ok(Builder {
@@ -101,7 +101,7 @@ pub(crate) fn changed_blocks<B: Block>(
     ensures { IfOk result (λ all. all ≡ done ++ changed (joined slots.now) changes.now) }
 {
     let mut builder = Builder {
-        list: done,
+        list: done.with_room(slots.len())?,
         loose: B::empty(alloc),
     };
     let mut rest = changes;

@@ -17,7 +17,10 @@ use std::alloc::{AllocError, Global};
 use std::marker::Model;
 
 /// How many rows a chunk of a list has at most.
-const MOST_ROWS: usize = 128;
+const MOST_ROWS: usize = 64;
+
+/// How many rows a chunk of a list has at least, where others follow and a write has touched it.
+const FEW_ROWS: usize = 16;
 
 /// Rows that lie together. A contract sees the rows.
 #[derive(Drop)]
@@ -36,9 +39,11 @@ impl Model for Chunk {
 impl Block for Chunk {
     ghost rows = { λ chunk. chunk };
 
-    ghost most = { 128 };
+    ghost most = { 64 };
 
-    const FEW_ROWS: usize = 32;
+    fn few_rows() -> usize {
+        FEW_ROWS
+    }
 
     fn empty(alloc: Global) -> Chunk {
         Chunk {

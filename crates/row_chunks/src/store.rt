@@ -12,14 +12,17 @@ use alto_rows::{Key, RowStore, Span, Value, Write};
 use std::alloc::{AllocError, Global};
 use std::marker::Model;
 
-/// Chunks that are shared together: 1 to 64 of them.
+/// Chunks that are shared together: 1 to 16 of them.
 type Page = Blocks<Chunk>;
 
-/// Rows in chunks that versions share: 1 to 128 rows in each. A contract sees them as one list, in the order of their
+/// Pages that are shared together: 1 to 16 of them.
+type Volume = Blocks<Page>;
+
+/// Rows in chunks that versions share: 1 to 64 rows in each. A contract sees them as one list, in the order of their
 /// keys.
 #[derive(Drop)]
 pub struct Chunks {
-    pages: Blocks<Page>,
+    volumes: Blocks<Volume>,
 }
 
 impl Model for Chunks {
@@ -27,9 +30,9 @@ impl Model for Chunks {
 
     ghost Value = { Rows };
 
-    ghost view = { λ chunks. chunks.pages };
+    ghost view = { λ chunks. chunks.volumes };
 
-    ghost invariant = { λ chunks. AreSorted chunks.pages };
+    ghost invariant = { λ chunks. AreSorted chunks.volumes };
 }
 
 impl RowStore for Chunks {
@@ -37,11 +40,12 @@ impl RowStore for Chunks {
 
     fn empty(alloc: Global) -> Result<Chunks, AllocError> {
         Ok(Chunks {
-            pages: Blocks::empty(alloc),
+            volumes: Blocks::empty(alloc),
         })
     }
 
-    /// One search among the first keys of pages, one among those of a page's chunks, and one in a chunk.
+    /// One search among the first keys of volumes, one among those of a volume's pages, one among those of a page's
+    /// chunks, and one in a chunk.
     fn get(&self, key: &Key) -> Option<&Value> {
         let row = self.run_from(key).first()?;
         if key.cmp(&row.0).is_eq() {
@@ -58,43 +62,44 @@ impl RowStore for Chunks {
 
     /// The rest of a chunk or, where that is used up, the next chunk.
     fn run_from(&self, key: &Key) -> &[(Key, Value)] {
-        self.pages.run_behind(&Cut::Before(key), Shared::Nothing)
+        self.volumes.run_behind(&Cut::Before(key), Shared::Nothing)
     }
 
     fn run_after(&self, key: &Key) -> &[(Key, Value)] {
-        self.pages.run_behind(&Cut::Behind(key), Shared::Nothing)
+        self.volumes.run_behind(&Cut::Behind(key), Shared::Nothing)
     }
 
     fn run_in(&self, span: &Span) -> &[(Key, Value)] {
-        self.pages
+        self.volumes
             .run_behind(&Cut::BeforeSpan(span), Shared::Nothing)
     }
 
     fn len(&self) -> usize {
-        self.pages.len()
+        self.volumes.len()
     }
 
-    /// Six searches: for each end of the span one among the first keys of pages, one among those of a page's chunks,
-    /// and one in a chunk.
+    /// Eight searches: for each end of the span one among the first keys of volumes, one among those of a volume's
+    /// pages, one among those of a page's chunks, and one in a chunk.
     fn count_in(&self, span: &Span) -> usize {
         let from = self
-            .pages
+            .volumes
             .count_behind(&Cut::BeforeSpan(span), Shared::Nothing);
         let past = self
-            .pages
+            .volumes
             .count_behind(&Cut::BehindSpan(span), Shared::Nothing);
         from - past
     }
 
-    /// One pass over the pages and the writes, sorted by their keys, over the chunks of each page that a write touches,
-    /// and over the rows of each chunk that one touches: p pages, c such chunks, r such rows and w writes cost
-    /// p + c + r + w log w. Any other page or chunk is shared, and nothing of it is read. Where a touched chunk is left
-    /// with less than 32 rows, the next of its page is touched too, and joined with it; so is the page behind one that
-    /// is left with less than 2,048.
+    /// One pass over the volumes and the writes, sorted by their keys, over the pages of each volume that a write
+    /// touches and the chunks of each such page, and over the rows of each such chunk: v volumes, p such pages, c such
+    /// chunks, r such rows and w writes cost v + p + c + r + w log w. Any other volume, page or chunk is shared, and
+    /// nothing of it is read. Where a touched chunk is left with less than 16 rows, the next of its page is touched too,
+    /// and joined with it; so is the page behind one that is left with less than 256, and the volume behind one that is
+    /// left with less than 4,096.
     fn with(&self, alloc: Global, writes: &[Write]) -> Result<Chunks, AllocError> {
         let changes = changes_of(alloc, writes)?;
         Ok(Chunks {
-            pages: Blocks::empty(alloc).with_changed(alloc, &self.pages, &changes)?,
+            volumes: Blocks::empty(alloc).with_changed(alloc, &self.volumes, &changes)?,
         })
     }
 }

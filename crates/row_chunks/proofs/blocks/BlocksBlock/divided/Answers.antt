@@ -28,7 +28,7 @@ loop-piece-preserved g c =
     record {
       whole = rw c.in_ok-push.ensures.items (list_more l.lists.items list piece.items others c.args.self
           c.in_ok-of_slots.ensures.whole whole);
-      small = rw c.in_ok-push.ensures.items (all_push (λ (list : Rows). length list ≤ 64 * g.B.Block.most) l.lists.items
+      small = rw c.in_ok-push.ensures.items (all_push (λ (list : Rows). length list ≤ 16 * g.B.Block.most) l.lists.items
           list l.invariant.small (small_list (length piece.items) (length list) g.B.Block.most (search rules)
           c.in_ok-of_slots.ensures.small));
       begin = begin_right piece.items others begin;

@@ -9,7 +9,7 @@ invariant-loop-piece g l =
     record {
       whole : flat_map (λ list. list) l.lists.items
           ++ joined (flat_map (λ piece. piece.items) l.piece-iterator.rest.items) ≡ l.fn.self;
-      small : AllByRecursion (λ list. length list ≤ 64 * g.B.Block.most) l.lists.items;
+      small : AllByRecursion (λ list. length list ≤ 16 * g.B.Block.most) l.lists.items;
       begin : AllBegin (flat_map (λ piece. piece.items) l.piece-iterator.rest.items);
-      within : AllByRecursion (λ piece. length piece.items ≤ 64) l.piece-iterator.rest.items;
+      within : AllByRecursion (λ piece. length piece.items ≤ 16) l.piece-iterator.rest.items;
     }

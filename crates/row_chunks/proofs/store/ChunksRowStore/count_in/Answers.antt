@@ -7,7 +7,7 @@ use Rattle.row_chunks.proofs.store.ChunksRowStore.count_in.Goals as goal
 
 pub overflow_sub-result : goal.overflow_sub-result
 overflow_sub-result c =
-    let rows = c.self.inside.pages in
+    let rows = c.self.inside.volumes in
     let span = c.args.span.now in
     let from : c.count_behind-from.result ≡ length (rows_from_span rows span) = c.count_behind-from.ensures in
     let past : c.count_behind-past.result ≡ length (filter (λ row. is_lt (span_cmp span row.0)) rows) =
@@ -18,7 +18,7 @@ overflow_sub-result c =
 
 pub returns-clause-count : goal.returns-clause-count
 returns-clause-count c =
-    let rows = c.self.inside.pages in
+    let rows = c.self.inside.volumes in
     let span = c.args.span.now in
     let from : c.count_behind-from.result ≡ length (rows_from_span rows span) = c.count_behind-from.ensures in
     let past : c.count_behind-past.result ≡ length (filter (λ row. is_lt (span_cmp span row.0)) rows) =
