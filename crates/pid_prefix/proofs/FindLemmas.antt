@@ -1,7 +1,7 @@
 -- What a table finds is the PID of the longest prefix.
 use Rattle.std.proofs.Common.{◌≡◌, ℕ, ◌*◌, ◌^◌, ◌≤◌, ap, sym, ◌∙◌, arith, subst, refl, get_or}
-use Rattle.std.specs.Prelude.{List, length, Option, Some, None}
-use Rattle.std.proofs.lemmas.List.{get_or_default}
+use Rattle.std.specs.Prelude.{List, length, map, Option, Some, None}
+use Rattle.std.proofs.lemmas.List.{get_or-map}
 use Rattle.alto_addr.specs.declared.addr.Addr.{Addr}
 use Rattle.alto_addr.specs.declared.addr.Addr.TheVariants as addr
 use Rattle.alto_addr.specs.Bits.{HasBits}
@@ -45,14 +45,15 @@ pub none_found : (rows : List Row) (a : Addr) → AreDistinct rows → IsLongest
 none_found rows a distinct never =
     one_longest rows a None (longest_prefix rows a) distinct never (longest_prefix_answers rows a)
 
--- the PID of the row at the place
-pub some_found : (rows : List Row) (a : Addr) (place : ℕ) (row : Row) → AreDistinct rows
-    → IsLongestAt rows a (Some place)
-    → row ≡ get_or rows place row → Some row.1 ≡ longest_prefix rows a
-some_found rows a place row distinct at is =
-    let same : row ≡ at.0 = is ∙ (get_or_default rows place row at.0 at.1.0 ∙ sym at.1.1) in
+-- the PID of the row at the place, among the PIDs of the rows
+pub pid_found : (rows : List Row) (pids : List (List ℕ)) (a : Addr) (place : ℕ) (pid : List ℕ) → AreDistinct rows
+    → pids ≡ map (λ (row : Row). row.1) rows → IsLongestAt rows a (Some place)
+    → pid ≡ get_or pids place pid → Some pid ≡ longest_prefix rows a
+pid_found rows pids a place pid distinct are at is =
+    let same : pid ≡ at.0.1 = is ∙ ap (λ (all : List (List ℕ)). get_or all place pid) are
+    ∙ get_or-map (λ (row : Row). row.1) rows place at.0 pid at.1.0 ∙ ap (λ (row : Row). row.1) (sym at.1.1) in
     let found : IsLongest rows a (Some at.0.1) = (at.0, (place, at.1.0, sym at.1.1), refl, at.2, at.3) in
-    ap (λ (r : Row). Some r.1) same ∙ one_longest rows a (Some at.0.1) (longest_prefix rows a) distinct
+    ap Some same ∙ one_longest rows a (Some at.0.1) (longest_prefix rows a) distinct
     found (longest_prefix_answers rows a)
 
 -- the place that a table finds, in the words of the code

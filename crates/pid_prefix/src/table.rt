@@ -1,4 +1,4 @@
-ghost use Rattle.std.specs.Prelude.{◌≡◌, ◌+◌, ◌-◌, ◌*◌, ◌^◌, ◌<◌, ◌≤◌, ℕ, IfOk, length, option_copied};
+ghost use Rattle.std.specs.Prelude.{◌≡◌, ◌+◌, ◌-◌, ◌*◌, ◌^◌, ◌<◌, ◌≤◌, ℕ, IfOk, length, map, option_copied};
 ghost use Rattle.alto_addr.specs.Bits.{HasBits};
 ghost use Rattle.pid_prefix.specs.Longest.{AreDistinct, longest_prefix};
 ghost use Rattle.pid_prefix.specs.Ranges.{AreRising};
@@ -17,11 +17,13 @@ use std::sync::ledger::{Blank, Ledger};
 
 /// Distinct prefixes with their PIDs, built for look-ups. A contract sees the list that it was built from.
 ///
-/// It keeps the list, 64 bytes for each prefix, and 2 ranges for a prefix at most: of 20 bytes each in IPv4, of which a
-/// search reads 4, and of 32 in IPv6, of which it reads 16. Names are shared.
+/// It keeps the list, 64 bytes for each prefix, and its PIDs once more, 8 bytes each, so that those which look-ups give
+/// lie together; and 2 ranges for a prefix at most: of 20 bytes each in IPv4, of which a search reads 4, and of 32 in
+/// IPv6, of which it reads 16. Names are shared.
 #[derive(Drop)]
 pub struct RangeTable {
     rows: Vec<(Prefix, PidName)>,
+    pids: Vec<PidName>,
     v4: Ranges<u32>,
     v6: Ranges<u128>,
 }
@@ -29,7 +31,7 @@ pub struct RangeTable {
 const _: () = prove!(size_of::<(Prefix, PidName)>() == 64);
 
 impl Model for RangeTable {
-    ghost use Rattle.std.specs.Prelude.{List};
+    ghost use Rattle.std.specs.Prelude.{◌≡◌, List, map};
     ghost use Rattle.pid_prefix.specs.Longest.{Row};
     ghost use Rattle.pid_prefix.specs.Table.{AreNarrowed};
 
@@ -37,7 +39,8 @@ impl Model for RangeTable {
 
     ghost view = { λ table. table.rows.items };
 
-    ghost invariant = { λ table. AreNarrowed table.rows.items table.v4 table.v6 };
+    ghost invariant = { λ table. AreNarrowed table.rows.items table.v4 table.v6
+        × (table.pids.items ≡ map (λ row. row.1) table.rows.items) };
 }
 
 impl RangeTable {
@@ -50,7 +53,8 @@ impl RangeTable {
         let v4 = Ranges::narrowed(alloc, &ranges_of(alloc, Family::V4, prefixes)?)?;
         let v6 = Ranges::narrowed(alloc, &ranges_of(alloc, Family::V6, prefixes)?)?;
         let rows = copied(alloc, prefixes)?;
-        Ok(RangeTable { rows, v4, v6 })
+        let pids = pids_of(alloc, prefixes)?;
+        Ok(RangeTable { rows, pids, v4, v6 })
     }
 
     /// The PID of the longest prefix that holds the address; `None` where none holds it. A step is one comparison of
@@ -61,7 +65,7 @@ impl RangeTable {
         ensures cost { 2 ^ (steps.new - steps.old) ≤ 4 * length self.now + 4 }
     {
         let place = place_in(&self.v4, &self.v6, addr, steps)?;
-        Some(&self.rows[place].1)
+        Some(&self.pids[place])
     }
 
     /// The same as `find`, for a caller that counts no steps.
@@ -113,4 +117,15 @@ fn copied(alloc: Global, rows: &[(Prefix, PidName)]) -> Result<Vec<(Prefix, PidN
         copy.push((row.0, row.1.clone()?))?;
     }
     Ok(copy)
+}
+
+/// The PIDs of rows, shared.
+fn pids_of(alloc: Global, rows: &[(Prefix, PidName)]) -> Result<Vec<PidName>, AllocError>
+    ensures { IfOk result (λ pids. pids.items ≡ map (λ row. row.1) rows.now) }
+{
+    let mut pids = Vec::with_capacity(alloc, rows.len())?;
+    for row in rows {
+        pids.push(row.1.clone()?)?;
+    }
+    Ok(pids)
 }
