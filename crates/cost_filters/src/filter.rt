@@ -31,6 +31,9 @@ use json::Writer;
 use net_docs::write_dependent_tags;
 use std::alloc::{AllocError, Global};
 
+/// Room for a text, which those of most asks don't outgrow.
+const FIRST_ROOM: usize = 8192;
+
 /// The text of the cost map of a network, cut to what is asked (RFC 7285, section 11.3.2.5; RFC 8189, section 4.1.3),
 /// with no space, written without a tree.
 ///
@@ -49,7 +52,7 @@ pub fn filter_cost_text<R: RowStore>(
     requires costs { AreCostsOf (R.rows rows.now) tables.now }
     ensures { IfOk result (λ bytes. bytes.items ≡ compact_text (filtered_costs (R.rows rows.now) net.now ask.now)) }
 {
-    let mut out = Writer::new(Vec::new(alloc));
+    let mut out = Writer::new(Vec::with_capacity(alloc, FIRST_ROOM)?);
     write_map(alloc, rows, tables, net, ask, &mut out)?;
     Ok(out.into_inner())
 }

@@ -46,7 +46,7 @@ impl Model for FromSource {
 
 impl FromSource {
     /// Those that rows give. One search, and one walk over the source's rows. The names of the destinations are shared
-    /// with a source that has the same.
+    /// with a source that has the same, which takes one comparison of two names for each.
     pub(crate) fn of<R: RowStore>(
         alloc: Global,
         rows: &R,

@@ -23,6 +23,9 @@ use json::Writer;
 use pid_prefix::RangeTable;
 use std::alloc::{AllocError, Global};
 
+/// Room for a text, which those of most asks don't outgrow.
+const FIRST_ROOM: usize = 4096;
+
 /// The text of the costs between the addresses that are asked for (RFC 7285, section 11.5.1.6; RFC 8189,
 /// section 4.2.3), by the network's prefixes, for a client at this address, if it is known. It has no space, and is
 /// written without a tree.
@@ -48,7 +51,7 @@ pub fn endpoint_cost_text<R: RowStore>(
 {
     let srcs = endpoints_at(alloc, table, &ask.srcs, peer)?;
     let dsts = endpoints_at(alloc, table, &ask.dsts, peer)?;
-    let mut out = Writer::new(Vec::new(alloc));
+    let mut out = Writer::new(Vec::with_capacity(alloc, FIRST_ROOM)?);
     write_map(alloc, rows, tables, net, ask, srcs, dsts, &mut out)?;
     Ok(out.into_inner())
 }
