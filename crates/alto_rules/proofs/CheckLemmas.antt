@@ -1,6 +1,6 @@
 -- The first rule that an edit breaks is of its network, of its PIDs, or its own.
 use Rattle.std.proofs.Common.{◌≡◌, refl, ap, sym, ◌∙◌}
-use Rattle.std.specs.Prelude.{ℕ, Bool, true, false, not, ◌||◌, cond, List, [], ◌∷◌, Option, Some}
+use Rattle.std.specs.Prelude.{ℕ, Bool, true, false, not, ◌&&◌, ◌||◌, cond, List, [], ◌∷◌, Option, Some, None}
 use Rattle.std.specs.List.{list_any}
 use Rattle.alto_rows.specs.declared.key.Key.TheVariants as key
 use Rattle.alto_rows.specs.Rows.{Rows, has_row}
@@ -11,6 +11,7 @@ use Rattle.alto_edits.specs.declared.rule.Rule.TheVariants as rule
 use Rattle.alto_edits.specs.Rules.{Check, broken_rule, first_broken, in_net, with_pids, lacks}
 use Rattle.alto_rules.specs.Origin.{IsDeclared}
 use Rattle.alto_rules.specs.Parts.{edit_net, edit_pids, next_cost_checks, own_checks, room_check}
+use Rattle.alto_rules.specs.Sizes.{is_full}
 
 -- the first check, or else those behind it
 pub first_check : (broken : Rule) (b : Bool) (rest : List Check)
@@ -105,3 +106,32 @@ next_cost_rule rows of net metric source destination cost is declared =
         ≡ first_broken ((rule.G6, not b || false) ∷ room_check rows net metric source destination ∷ [])
     by true = refl
     by false = refl
+
+-- of such a cost whose destination is declared, none where there is room
+pub next_cost_fits : (rows : Rows) (net metric source destination : List ℕ)
+    → lacks rows (key.Pid net destination) ≡ false
+    → is_full rows (key.Cost net metric source destination) 262144 ≡ false
+    → None ≡ first_broken (next_cost_checks rows net metric source destination)
+next_cost_fits rows net metric source destination =
+    by (lacks rows (key.Pid net destination)) (lacks rows (key.Cost net metric source destination))
+    (is_full rows (key.Cost net metric source destination) 262144)
+  where
+    by : (pid cost full : Bool) → pid ≡ false → full ≡ false
+        → None ≡ first_broken ((rule.G6, pid) ∷ (rule.G12, cost && full) ∷ [])
+    by pid true full known room = rw (known, room) refl
+    by pid false full known room = rw known refl
+
+-- and where there is none, that of a cost without a row
+pub next_cost_lacks : (rows : Rows) (net metric source destination : List ℕ)
+    → lacks rows (key.Pid net destination) ≡ false
+    → is_full rows (key.Cost net metric source destination) 262144 ≡ true
+    → first_broken ((rule.G12, lacks rows (key.Cost net metric source destination)) ∷ [])
+    ≡ first_broken (next_cost_checks rows net metric source destination)
+next_cost_lacks rows net metric source destination =
+    by (lacks rows (key.Pid net destination)) (lacks rows (key.Cost net metric source destination))
+    (is_full rows (key.Cost net metric source destination) 262144)
+  where
+    by : (pid cost full : Bool) → pid ≡ false → full ≡ true
+        → first_broken ((rule.G12, cost) ∷ []) ≡ first_broken ((rule.G6, pid) ∷ (rule.G12, cost && full) ∷ [])
+    by pid true full known room = rw (known, room) refl
+    by pid false full known room = rw known refl

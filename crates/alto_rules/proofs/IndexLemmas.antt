@@ -1,5 +1,5 @@
 -- The index of a draft stays true under a write.
-use Rattle.std.proofs.Common.{◌≡◌, refl, ap, sym, ◌∙◌}
+use Rattle.std.proofs.Common.{◌≡◌, refl, ap, sym, ◌∙◌, subst}
 use Rattle.std.proofs.lemmas.Cmp.{eq_by_cmp_equiv}
 use Rattle.std.proofs.lemmas.List.Folds.{list_any-append}
 use Rattle.std.specs.Prelude.{Bool, true, false, cond, ◌||◌, List, [], ◌∷◌, ◌++◌, Option, Some, None, is_some}
@@ -17,7 +17,7 @@ use Rattle.alto_rows.specs.Touches.{part_of, is_resource}
 use Rattle.alto_rows.proofs.OrderLemmas.{resource_cmp_total}
 use Rattle.alto_rows.proofs.ResourceLemmas.{or_false}
 use Rattle.alto_rows.proofs.RowsLemmas.{same_key_back}
-use Rattle.alto_rows.proofs.TouchesLemmas.{same_resource_ties}
+use Rattle.alto_rows.proofs.TouchesLemmas.{one_resource, same_resource_ties}
 use Rattle.alto_rows.proofs.WriteLemmas.{value_of-after-push}
 use Rattle.alto_rules.specs.Draft.{writing}
 use Rattle.alto_rules.specs.declared.written.Written.{Written}
@@ -45,6 +45,19 @@ pub part_added : (t t' : BTreeSet Resource) (part of : Resource) → set.Updates
 part_added t t' part of more =
     more.0 of ∙ rw ((eq_by_cmp_equiv resource_cmp_total).symm part of, ← same_resource_ties of part)
     (added (is_resource (Some part) of) (contains resource_cmp t of))
+
+-- a set that has the resource that a key is part of gains nothing by it
+pub part_there : (t : BTreeSet Resource) (part of : Resource) → contains resource_cmp t part ≡ true
+    → contains resource_cmp t of ≡ (contains resource_cmp t of || is_resource (Some part) of)
+part_there t part of there = by (is_resource (Some part) of) refl
+  where
+    by : (b : Bool) → is_resource (Some part) of ≡ b
+        → contains resource_cmp t of ≡ (contains resource_cmp t of || is_resource (Some part) of)
+    by true e =
+        let has : contains resource_cmp t of ≡ true =
+        subst (λ (r : Resource). contains resource_cmp t r ≡ true) (sym (one_resource of part e)) there in
+        rw (e, has) refl
+    by false e = rw e (sym (or_false (contains resource_cmp t of)))
 
 -- a row that is written, or else as it was
 put_or_kept : (b : Bool) (v old : Option Value) (g : Option Bool) (o : Bool) → is_some old ≡ unwrap_or g o

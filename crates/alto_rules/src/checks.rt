@@ -1,4 +1,4 @@
-ghost use Rattle.std.specs.Prelude.{◌≡◌, ◌∷◌, ◌&&◌, [], IfOk};
+ghost use Rattle.std.specs.Prelude.{◌≡◌, ◌∷◌, ◌&&◌, [], ℕ, IfOk, List};
 ghost use Rattle.std.specs.List.{list_any};
 ghost use Rattle.alto_rows.specs.declared.key.Key.TheVariants as keys;
 ghost use Rattle.alto_rows.specs.Rows.{has_row};
@@ -10,7 +10,7 @@ ghost use Rattle.alto_rules.specs.Origin.{LastCostIsDeclared};
 ghost use Rattle.alto_rules.specs.Parts.{edit_net, edit_pids, next_cost_checks, own_checks};
 ghost use Rattle.alto_rules.specs.Sizes.{is_full};
 
-use crate::counted::counted_of;
+use crate::counted::{Counted, counted_of};
 use crate::draft::Draft;
 use crate::keys::{ane_key, cost_key, metric_key, net_key};
 use crate::parts::{edit_key, edit_net};
@@ -70,8 +70,20 @@ impl<'a, R: RowStore> Draft<'a, R> {
         if self.lacks_pid(net, destination)? {
             return Ok(Some(Rule::G6));
         }
+        if !self.has_most_costs(net, metric)? {
+            return Ok(None);
+        }
         let key = cost_key(net, metric, source, destination)?;
-        self.cost_room_rule(&key)
+        Ok(self.lacking(&key, Rule::G12))
+    }
+
+    /// Whether a metric has as many costs as it may have.
+    fn has_most_costs(&self, net: &NetName, metric: &Metric) -> Result<bool, AllocError>
+        ensures { IfOk result (λ is. (src dst : List ℕ)
+            → is ≡ is_full (drafted_rows self.now) (keys.Cost net.now metric.now src dst) 262144) }
+    {
+        let costs = Counted::Costs(net.clone()?, metric.clone()?);
+        Ok(self.count(&costs)? >= MOST_COSTS)
     }
 
     /// The first rule that the edit breaks, by a search for each thing that it names.

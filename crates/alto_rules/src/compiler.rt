@@ -66,7 +66,7 @@ fn drafted<'a, R: RowStore>(
         → edits_writes (R.rows rows.now) 1 edits.now ≡ Err fault) }
 {
     let indexes = puts_many(edits);
-    let mut draft = Draft::new(alloc, rows);
+    let mut draft = Draft::new(alloc, rows)?;
     for (index, edit) in edits.iter().enumerate() {
         draft = prepared(draft, edit, indexes)?;
         if let Some(rule) = draft.broken_rule(edit)? {

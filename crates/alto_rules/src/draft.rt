@@ -28,7 +28,7 @@ use std::marker::Model;
 pub struct Draft<'a, R: RowStore> {
     pub rows: &'a R,
     pub writes: Vec<Write>,
-    pub kept: Kept<'a>,
+    pub kept: Box<Kept<'a>>,
 }
 
 impl<'a, R: RowStore> Model for Draft<'a, R> {
@@ -39,21 +39,22 @@ impl<'a, R: RowStore> Model for Draft<'a, R> {
 
     ghost view = { λ draft. record { rows = R.rows draft.rows.now; writes = draft.writes.items } };
 
-    ghost invariant = { λ draft. IsDraft (R.rows draft.rows.now) draft.writes.items draft.kept };
+    ghost invariant = { λ draft. IsDraft (R.rows draft.rows.now) draft.writes.items draft.kept.value };
 }
 
 impl<'a, R: RowStore> Draft<'a, R> {
     /// A draft without writes.
-    pub fn new(alloc: Global, rows: &'a R) -> Self
+    pub fn new(alloc: Global, rows: &'a R) -> Result<Self, AllocError>
         requires sorted { AreSorted (R.rows rows.now) }
         requires owners { HaveOneOwner (R.rows rows.now) }
-        ensures { result ≡ opened (R.rows rows.now) }
+        ensures { IfOk result (λ draft. draft ≡ opened (R.rows rows.now)) }
     {
-        Draft {
+        let kept = Box::new(alloc, Kept::new(alloc, rows))?;
+        Ok(Draft {
             rows,
             writes: Vec::new(alloc),
-            kept: Kept::new(alloc, rows),
-        }
+            kept,
+        })
     }
 
     /// Whether the key has a row after the writes. Three searches.
@@ -132,9 +133,14 @@ impl<'a, R: RowStore> Draft<'a, R> {
         requires alone { is_some value ≡ true → GivesAlone (drafted_rows self) key }
         ensures { IfOk result (λ draft. draft ≡ wrote self.entry (writing key value ∷ [])) }
     {
-        let Draft { rows, writes, kept } = self;
-        let kept = kept.with(rows, last_key(&writes), &key, value.is_some())?;
-        let writes = with_write(writes, Write { key, value })?;
+        let Draft {
+            rows,
+            mut writes,
+            mut kept,
+        } = self;
+        let alloc = *writes.allocator();
+        kept.add(alloc, rows, last_key(&writes), &key, value.is_some())?;
+        writes.push(Write { key, value })?;
         Ok(Draft { rows, writes, kept })
     }
 
@@ -209,8 +215,12 @@ impl<'a, R: RowStore> Draft<'a, R> {
     pub fn knowing(self, net: &NetName) -> Result<Self, AllocError>
         ensures { IfOk result (λ draft. draft ≡ self.entry) }
     {
-        let Draft { rows, writes, kept } = self;
-        let kept = kept.knowing(*writes.allocator(), rows, net)?;
+        let Draft {
+            rows,
+            writes,
+            mut kept,
+        } = self;
+        kept.know(*writes.allocator(), rows, net)?;
         Ok(Draft { rows, writes, kept })
     }
 
@@ -219,8 +229,12 @@ impl<'a, R: RowStore> Draft<'a, R> {
     pub fn seeking(self, net: &NetName, pid: &PidName, follows: bool) -> Result<Self, AllocError>
         ensures { IfOk result (λ draft. draft ≡ self.entry) }
     {
-        let Draft { rows, writes, kept } = self;
-        let kept = kept.seeking(rows, net, pid, follows)?;
+        let Draft {
+            rows,
+            writes,
+            mut kept,
+        } = self;
+        kept.seek(rows, net, pid, follows)?;
         Ok(Draft { rows, writes, kept })
     }
 }
@@ -230,13 +244,4 @@ fn last_key(writes: &[Write]) -> Option<&Key>
     ensures { option_map (λ key. key.now) result ≡ last_key writes.now }
 {
     Some(&writes.last()?.key)
-}
-
-/// The writes with one more.
-fn with_write(writes: Vec<Write>, write: Write) -> Result<Vec<Write>, AllocError>
-    ensures { IfOk result (λ all. all.items ≡ writes.items ++ write ∷ []) }
-{
-    let mut all = writes;
-    all.push(write)?;
-    Ok(all)
 }

@@ -1,11 +1,11 @@
-ghost use Rattle.std.specs.Prelude.{◌≡◌, ◌||◌, [], IfOk, Some, true, option_copied};
+ghost use Rattle.std.specs.Prelude.{◌≡◌, ◌||◌, [], IfOk, IsTrue, OnOk, Some, true};
 ghost use Rattle.std.specs.BTreeSet.{BTreeSet, Updates as SetUpdates, contains};
-ghost use Rattle.std.specs.Option.{option_copied};
 ghost use Rattle.alto_rows.specs.Order.{resource_cmp};
 ghost use Rattle.alto_rows.specs.declared.resource.Resource as resource;
 ghost use Rattle.alto_rows.specs.Touches.{is_resource, part_of};
 ghost use Rattle.alto_rules.specs.Written.{Gains, told};
 
+use crate::shared::are_same;
 use crate::written::Written;
 use alto_rows::{Key, Resource};
 use std::alloc::{AllocError, Global};
@@ -40,41 +40,65 @@ impl Index {
         self.written.has(key)
     }
 
-    /// The index with a write more, whether its key has a row after it, and what `has` told before.
-    pub fn with(self, key: &Key, has: bool) -> Result<(Index, Option<bool>), AllocError>
-        ensures written { IfOk result (λ made. Gains self.written made.0.written key.now has) }
-        ensures parts { IfOk result (λ made. (of : resource.Resource) → contains resource_cmp made.0.parts of
-            ≡ (contains resource_cmp self.parts of || is_resource (part_of key.now) of)) }
-        ensures old { IfOk result (λ made. made.1 ≡ told self.written key.now) }
+    /// Adds a write, whether its key has a row after it, and gives what `has` told before.
+    pub fn add(&mut self, alloc: Global, key: &Key, has: bool) -> Result<Option<bool>, AllocError>
+        ensures written { OnOk result (Gains self.old.written self.new.written key.now has) }
+        ensures parts { OnOk result ((of : resource.Resource) → contains resource_cmp self.new.parts of
+            ≡ (contains resource_cmp self.old.parts of || is_resource (part_of key.now) of)) }
+        ensures old { IfOk result (λ before. before ≡ told self.old.written key.now) }
     {
-        let Index { written, parts } = self;
-        let (written, old) = written.with(key, has)?;
-        let parts = with_part(parts, key)?;
-        Ok((Index { written, parts }, old))
+        let before = self.written.add(alloc, key, has)?;
+        add_part(&mut self.parts, key)?;
+        Ok(before)
     }
 }
 
-/// The resources with the one that a key is part of.
-fn with_part(parts: BTreeSet<Resource>, key: &Key) -> Result<BTreeSet<Resource>, AllocError>
-    ensures { IfOk result (λ all. (of : resource.Resource)
-        → contains resource_cmp all of ≡ (contains resource_cmp parts of || is_resource (part_of key.now) of)) }
+/// Adds the resource that a key is part of. A few comparisons where this is the last one, else a search.
+fn add_part(parts: &mut BTreeSet<Resource>, key: &Key) -> Result<(), AllocError>
+    ensures { OnOk result ((of : resource.Resource) → contains resource_cmp parts.new of
+        ≡ (contains resource_cmp parts.old of || is_resource (part_of key.now) of)) }
 {
+    if ends_with_part(parts, key) {
+        return Ok(());
+    }
     match part_of(key)? {
-        Some(part) => with_resource(parts, part),
-        None => Ok(parts),
+        Some(part) => add_resource(parts, part),
+        None => Ok(()),
     }
 }
 
-/// The resources with one more.
-pub fn with_resource(
-    all: BTreeSet<Resource>,
-    more: Resource,
-) -> Result<BTreeSet<Resource>, AllocError>
-    ensures { IfOk result (λ after. SetUpdates resource_cmp all after more true) }
+/// Whether the last of the resources is the one that a key is part of.
+fn ends_with_part(parts: &BTreeSet<Resource>, key: &Key) -> bool
+    ensures { IsTrue result → (of : resource.Resource) → contains resource_cmp parts.now of
+        ≡ (contains resource_cmp parts.now of || is_resource (part_of key.now) of) }
 {
-    let mut after = all;
-    after.insert(more)?;
-    Ok(after)
+    match parts.last() {
+        Some(last) => is_part_of(key, last),
+        None => false,
+    }
+}
+
+/// Whether a row is part of the document of a resource.
+fn is_part_of(key: &Key, of: &Resource) -> bool
+    ensures { IsTrue result → part_of key.now ≡ Some of.now }
+{
+    match (key, of) {
+        (Key::Net(net) | Key::Pid(net, _) | Key::Prefix(net, _, _), Resource::Net(other))
+        | (Key::Prop(net, _, _), Resource::Prop(other)) => are_same(net, other),
+        (
+            Key::Metric(net, metric) | Key::Cost(net, metric, _, _),
+            Resource::Cost(other, other_metric),
+        ) => are_same(net, other) && are_same(metric, other_metric),
+        _ => false,
+    }
+}
+
+/// Adds a resource.
+pub fn add_resource(all: &mut BTreeSet<Resource>, more: Resource) -> Result<(), AllocError>
+    ensures { OnOk result (SetUpdates resource_cmp all.old all.new more true) }
+{
+    all.insert(more)?;
+    Ok(())
 }
 
 /// The resource whose document a row is part of.

@@ -1,4 +1,4 @@
-ghost use Rattle.std.specs.Prelude.{◌≡◌, [], IfOk, IfSome, List, option_map};
+ghost use Rattle.std.specs.Prelude.{◌≡◌, [], IfSome, List, OnOk, option_map};
 ghost use Rattle.alto_rows.specs.declared.write.Write.{Write};
 ghost use Rattle.std.specs.Option.{unwrap_or};
 ghost use Rattle.alto_rows.specs.Rows.{Rows, AreSorted, IsRunOf, has_row, rows_from};
@@ -42,97 +42,56 @@ impl<'a> Kept<'a> {
         }
     }
 
-    /// What is kept after a write more, behind one of the last key, if there is one: whether its key has a row then.
-    /// Some searches. Where the keys are written in the order of the rows before the writes, the one in these takes
-    /// three comparisons.
-    pub fn with<R: RowStore>(
-        self,
+    /// Adds a write, behind one of the last key, if there is one: whether its key has a row then. Some searches. Where
+    /// the keys are written in the order of the rows before the writes, the one in these takes three comparisons.
+    pub fn add<R: RowStore>(
+        &mut self,
+        alloc: Global,
         rows: &'a R,
         last: Option<&Key>,
         key: &Key,
         has: bool,
-    ) -> Result<Kept<'a>, AllocError>
+    ) -> Result<(), AllocError>
         requires sorted { AreSorted (R.rows rows.now) }
         requires run { IfSome (option_map (λ key. key.now) last)
-            (λ last. IsRunOf (rows_from (R.rows rows.now) last) self.run.now) }
-        ensures { IfOk result (λ kept. HasKept (R.rows rows.now) key.now has self.entry kept) }
+            (λ last. IsRunOf (rows_from (R.rows rows.now) last) self.old.run.now) }
+        ensures { OnOk result (HasKept (R.rows rows.now) key.now has self.old self.new) }
     {
-        let Kept {
-            index,
-            sizes,
-            owners,
-            run,
-            pids,
-        } = self;
-        let (index, old) = index.with(key, has)?;
-        let run = next_run(rows, last, run, key);
-        let had = had_row(run, key, old);
-        let sizes = sizes.with(rows, key, had, has)?;
-        let owners = owners.with(key, had, has)?;
-        Ok(Kept {
-            index,
-            sizes,
-            owners,
-            run,
-            pids,
-        })
+        let old = self.index.add(alloc, key, has)?;
+        self.run = next_run(rows, last, self.run, key);
+        let had = had_row(self.run, key, old);
+        self.sizes.recount(rows, key, had, has)?;
+        self.owners.change(key, had, has)
     }
 
-    /// The same, with the owners of all prefixes of a network known. One walk over these where they aren't yet.
-    pub fn knowing<R: RowStore>(
-        self,
+    /// Comes to know the owners of all prefixes of a network. One walk over these where they aren't known yet.
+    pub fn know<R: RowStore>(
+        &mut self,
         alloc: Global,
         rows: &R,
         net: &NetName,
-    ) -> Result<Kept<'a>, AllocError>
+    ) -> Result<(), AllocError>
         requires { HaveOneOwner (R.rows rows.now) }
-        ensures { IfOk result (λ kept. (writes : List Write)
-            → IsDraft (R.rows rows.now) writes self.entry → IsDraft (R.rows rows.now) writes kept) }
+        ensures { OnOk result ((writes : List Write)
+            → IsDraft (R.rows rows.now) writes self.old → IsDraft (R.rows rows.now) writes self.new) }
     {
-        let Kept {
-            index,
-            sizes,
-            owners,
-            run,
-            pids,
-        } = self;
-        let owners = owners.knowing(alloc, rows, net)?;
-        Ok(Kept {
-            index,
-            sizes,
-            owners,
-            run,
-            pids,
-        })
+        self.owners.know(alloc, rows, net)
     }
 
-    /// The same, with the rows from the PID's on that a cost goes to. `pids_from` says what it takes.
-    pub fn seeking<R: RowStore>(
-        self,
+    /// Seeks the rows from the PID's on that a cost goes to. `pids_from` says what it takes.
+    pub fn seek<R: RowStore>(
+        &mut self,
         rows: &'a R,
         net: &NetName,
         pid: &PidName,
         follows: bool,
-    ) -> Result<Kept<'a>, AllocError>
-        requires { HasAll (R.rows rows.now) self.pids.now }
-        ensures { IfOk result (λ kept. (writes : List Write)
-            → IsDraft (R.rows rows.now) writes self.entry → IsDraft (R.rows rows.now) writes kept) }
+    ) -> Result<(), AllocError>
+        requires { HasAll (R.rows rows.now) self.old.pids.now }
+        ensures { OnOk result ((writes : List Write)
+            → IsDraft (R.rows rows.now) writes self.old → IsDraft (R.rows rows.now) writes self.new) }
     {
-        let Kept {
-            index,
-            sizes,
-            owners,
-            run,
-            pids,
-        } = self;
-        let pids = pids_from(rows, pids, net, pid, follows)?;
-        Ok(Kept {
-            index,
-            sizes,
-            owners,
-            run,
-            pids,
-        })
+        self.pids = pids_from(rows, self.pids, net, pid, follows)?;
+        Ok(())
     }
 }
 

@@ -1,4 +1,4 @@
-ghost use Rattle.std.specs.Prelude.{◌≡◌, [], ◌∷◌, IfOk, Some, true, is_some, map};
+ghost use Rattle.std.specs.Prelude.{◌≡◌, [], ◌∷◌, IfOk, OnOk, Some, true, is_some, map};
 ghost use Rattle.std.specs.BTreeMap.{BTreeMap, Updates, get};
 ghost use Rattle.std.specs.BTreeSet.{BTreeSet, Updates as SetUpdates, contains};
 ghost use Rattle.std.specs.Ordering.{is_eq};
@@ -54,38 +54,34 @@ impl Owners {
         self.known.contains(net)
     }
 
-    /// The owners after a write of a key that had a row or not, and then has one or not.
-    pub fn with(self, key: &Key, had: bool, has: bool) -> Result<Owners, AllocError>
-        ensures owners { IfOk result (λ owners. HasChanged (owner_left key.now had has) self.of owners.of) }
-        ensures known { IfOk result (λ owners. owners.known ≡ self.known) }
+    /// Keeps whom a prefix is left to by a write of a key that had a row or not, and then has one or not.
+    pub fn change(&mut self, key: &Key, had: bool, has: bool) -> Result<(), AllocError>
+        ensures owners { OnOk result (HasChanged (owner_left key.now had has) self.old.of self.new.of) }
+        ensures known { OnOk result (self.new.known ≡ self.old.known) }
     {
-        let Owners { of, known } = self;
-        let of = match owner_left(key, had, has)? {
-            Some((place, owner)) => with_owner(of, place, owner)?,
-            None => of,
-        };
-        Ok(Owners { of, known })
+        match owner_left(key, had, has)? {
+            Some((place, owner)) => set_owner(&mut self.of, place, owner),
+            None => Ok(()),
+        }
     }
 
-    /// The owners with those of all prefixes that a network has in the rows before the writes. One walk over these.
-    pub fn knowing<R: RowStore>(
-        self,
+    /// Adds the owners of all prefixes that a network has in the rows before the writes. One walk over these.
+    pub fn know<R: RowStore>(
+        &mut self,
         alloc: Global,
         rows: &R,
         net: &NetName,
-    ) -> Result<Owners, AllocError>
+    ) -> Result<(), AllocError>
         requires { HaveOneOwner (R.rows rows.now) }
-        ensures { IfOk result (λ owners. (later : Rows)
-            → AreOwners (R.rows rows.now) later self.of self.known
-            → AreOwners (R.rows rows.now) later owners.of owners.known) }
+        ensures { OnOk result ((later : Rows)
+            → AreOwners (R.rows rows.now) later self.old.of self.old.known
+            → AreOwners (R.rows rows.now) later self.new.of self.new.known) }
     {
-        let Owners { of, known } = self;
-        if known.contains(net) {
-            return Ok(Owners { of, known });
+        if self.known.contains(net) {
+            return Ok(());
         }
-        let of = with_told(of, net, prefixes_of(alloc, rows, net)?)?;
-        let known = with_net(known, net)?;
-        Ok(Owners { of, known })
+        add_told(&mut self.of, net, prefixes_of(alloc, rows, net)?)?;
+        add_net(&mut self.known, net)
     }
 }
 
@@ -122,33 +118,32 @@ fn is_same(prefix: &Prefix, other: &Prefix) -> bool
     prefix.cmp(other).is_eq()
 }
 
-/// The owners with those that are told of a network's prefixes, unless one is kept of the same prefix.
-fn with_told(
-    of: BTreeMap<Place, Option<PidName>>,
+/// Adds the owners that are told of a network's prefixes, unless one is kept of the same prefix.
+fn add_told(
+    of: &mut BTreeMap<Place, Option<PidName>>,
     net: &NetName,
     told: Vec<(Prefix, PidName)>,
-) -> Result<BTreeMap<Place, Option<PidName>>, AllocError>
-    ensures { IfOk result (λ all. HasFilled (map (placed net.now) told.items) of all) }
+) -> Result<(), AllocError>
+    ensures { OnOk result (HasFilled (map (placed net.now) told.items) of.old of.new) }
 {
-    let mut all = of;
     for (prefix, pid) in told {
-        all = with_one(all, place_of(net, &prefix)?, pid)?;
+        add_one(of, place_of(net, &prefix)?, pid)?;
     }
-    Ok(all)
+    Ok(())
 }
 
-/// The owners with one more, unless one is kept of its prefix.
-fn with_one(
-    of: BTreeMap<Place, Option<PidName>>,
+/// Adds an owner, unless one is kept of its prefix.
+fn add_one(
+    of: &mut BTreeMap<Place, Option<PidName>>,
     place: Place,
     owner: PidName,
-) -> Result<BTreeMap<Place, Option<PidName>>, AllocError>
-    ensures { IfOk result (λ all. HasFilled ((place, owner) ∷ []) of all) }
+) -> Result<(), AllocError>
+    ensures { OnOk result (HasFilled ((place, owner) ∷ []) of.old of.new) }
 {
-    if is_kept(&of, &place) {
-        Ok(of)
+    if is_kept(of, &place) {
+        Ok(())
     } else {
-        with_owner(of, place, Some(owner))
+        set_owner(of, place, Some(owner))
     }
 }
 
@@ -187,26 +182,24 @@ pub fn place_of(net: &NetName, prefix: &Prefix) -> Result<Place, AllocError>
     })
 }
 
-/// The owners with one more.
-fn with_owner(
-    of: BTreeMap<Place, Option<PidName>>,
+/// Sets the owner of a prefix.
+fn set_owner(
+    of: &mut BTreeMap<Place, Option<PidName>>,
     place: Place,
     owner: Option<PidName>,
-) -> Result<BTreeMap<Place, Option<PidName>>, AllocError>
-    ensures { IfOk result (λ all. Updates place_cmp of all place (Some owner)) }
+) -> Result<(), AllocError>
+    ensures { OnOk result (Updates place_cmp of.old of.new place (Some owner)) }
 {
-    let mut all = of;
-    all.insert(place, owner)?;
-    Ok(all)
+    of.insert(place, owner)?;
+    Ok(())
 }
 
-/// The networks with one more.
-fn with_net(known: BTreeSet<NetName>, net: &NetName) -> Result<BTreeSet<NetName>, AllocError>
-    ensures { IfOk result (λ all. SetUpdates name_cmp known all net.now true) }
+/// Adds a network.
+fn add_net(known: &mut BTreeSet<NetName>, net: &NetName) -> Result<(), AllocError>
+    ensures { OnOk result (SetUpdates name_cmp known.old known.new net.now true) }
 {
-    let mut all = known;
-    all.insert(net.clone()?)?;
-    Ok(all)
+    known.insert(net.clone()?)?;
+    Ok(())
 }
 
 /// A copy of an owner.

@@ -1,4 +1,4 @@
-ghost use Rattle.std.specs.Prelude.{◌≡◌, ◌+◌, ◌-◌, [], IfOk, Some, length};
+ghost use Rattle.std.specs.Prelude.{◌≡◌, ◌+◌, ◌-◌, [], IfOk, OnOk, Some, length};
 ghost use Rattle.std.specs.BTreeMap.{Updates};
 ghost use Rattle.alto_rows.specs.Rows.{AreSorted};
 ghost use Rattle.alto_rows.specs.Span.{count_in};
@@ -40,27 +40,26 @@ impl Sizes {
         }
     }
 
-    /// The sizes after a write of a key that had a row or not, and then has one or not.
-    pub fn with<R: RowStore>(
-        self,
+    /// Counts anew after a write of a key that had a row or not, and then has one or not.
+    pub fn recount<R: RowStore>(
+        &mut self,
         rows: &R,
         key: &Key,
         had: bool,
         has: bool,
-    ) -> Result<Sizes, AllocError>
-        ensures total { IfOk result (λ sizes. sizes.total ≡ recounted had has self.total) }
-        ensures counts { IfOk result (λ sizes.
-            HasRecounted (R.rows rows.now) (counted_of key.now) had has self.counts sizes.counts) }
+    ) -> Result<(), AllocError>
+        ensures total { OnOk result (self.new.total ≡ recounted had has self.old.total) }
+        ensures counts { OnOk result (
+            HasRecounted (R.rows rows.now) (counted_of key.now) had has self.old.counts self.new.counts) }
     {
-        let total = recounted(had, has, self.total)?;
-        let counts = match counted_of(key)? {
+        self.total = recounted(had, has, self.total)?;
+        match counted_of(key)? {
             Some(counted) => {
                 let count = recounted(had, has, self.count(rows, &counted)?)?;
-                with_count(self.counts, counted, count)?
+                set_count(&mut self.counts, counted, count)
             }
-            None => self.counts,
-        };
-        Ok(Sizes { total, counts })
+            None => Ok(()),
+        }
     }
 }
 
@@ -75,15 +74,14 @@ fn recounted(had: bool, has: bool, count: usize) -> Result<usize, AllocError>
     }
 }
 
-/// The counts with one more.
-fn with_count(
-    counts: BTreeMap<Counted, usize>,
+/// Sets one of the counts.
+fn set_count(
+    counts: &mut BTreeMap<Counted, usize>,
     counted: Counted,
     count: usize,
-) -> Result<BTreeMap<Counted, usize>, AllocError>
-    ensures { IfOk result (λ all. Updates counted_cmp counts all counted (Some count)) }
+) -> Result<(), AllocError>
+    ensures { OnOk result (Updates counted_cmp counts.old counts.new counted (Some count)) }
 {
-    let mut all = counts;
-    all.insert(counted, count)?;
-    Ok(all)
+    counts.insert(counted, count)?;
+    Ok(())
 }

@@ -1,5 +1,5 @@
-ghost use Rattle.std.specs.Prelude.{◌≡◌, ◌+◌, ◌^◌, ◌<◌, ◌∷◌, [], IfOk, option_copied};
-ghost use Rattle.std.specs.BTreeSet.{contains};
+ghost use Rattle.std.specs.Prelude.{◌≡◌, ◌+◌, ◌^◌, ◌<◌, ◌∷◌, [], IfOk, true, option_copied};
+ghost use Rattle.std.specs.BTreeSet.{Updates, contains};
 ghost use Rattle.std.specs.List.{filter_map, flat_map};
 ghost use Rattle.alto_rows.specs.declared.key.Key.TheVariants as key;
 ghost use Rattle.alto_rows.specs.declared.resource.Resource as resource;
@@ -13,7 +13,7 @@ ghost use Rattle.alto_rules.specs.Draft.{HasJoined, HasTouched, HaveNoVersions, 
 ghost use Rattle.alto_rules.specs.Draft.{drafted_rows, is_among, wrote};
 
 use crate::draft::Draft;
-use crate::index::with_resource;
+use crate::index::add_resource;
 use crate::keys::net_key;
 use crate::withdrawal::named_in;
 use alto_names::{Metric, NetName};
@@ -181,6 +181,15 @@ fn declaring_key(of: &Resource) -> Result<Key, AllocError>
         Resource::Net(net) | Resource::Prop(net) => Key::Net(net.clone()?),
         Resource::Cost(net, metric) => Key::Metric(net.clone()?, metric.clone()?),
     })
+}
+
+/// The resources with one more.
+fn with_resource(all: BTreeSet<Resource>, more: Resource) -> Result<BTreeSet<Resource>, AllocError>
+    ensures { IfOk result (λ after. Updates resource_cmp all after more true) }
+{
+    let mut after = all;
+    add_resource(&mut after, more)?;
+    Ok(after)
 }
 
 /// A copy of a resource.

@@ -1,4 +1,4 @@
-ghost use Rattle.std.specs.Prelude.{◌≡◌, [], Err, IfOk, IfSome, IsTrue, None, Some, length, true};
+ghost use Rattle.std.specs.Prelude.{◌≡◌, [], Err, IfOk, IfSome, IsTrue, None, OnOk, Some, length, true};
 ghost use Rattle.std.specs.BTreeMap.{Updates, get};
 ghost use Rattle.alto_rows.specs.Order.{key_cmp};
 ghost use Rattle.alto_rows.specs.Place.{place_of};
@@ -8,6 +8,7 @@ ghost use Rattle.alto_rules.specs.Written.{Gains, if_put, told, told_or};
 use alto_rows::{Key, PlainRows, RowStore, Value};
 use std::alloc::{AllocError, Global};
 use std::collections::BTreeMap;
+use std::mem;
 
 /// Which keys have rows after writes of them. Where keys are put in their order, each costs one comparison.
 #[derive(Drop)]
@@ -50,18 +51,19 @@ impl Written {
         }
     }
 
-    /// The keys with a write more, whether its key has a row after it, and what `has` told before. One comparison for a
-    /// row behind all that were put, and a search where there are other keys; else some searches.
-    pub fn with(self, key: &Key, has: bool) -> Result<(Written, Option<bool>), AllocError>
-        ensures gains { IfOk result (λ made. Gains self made.0 key.now has) }
-        ensures old { IfOk result (λ made. made.1 ≡ told self key.now) }
+    /// Adds a write, whether its key has a row after it, and gives what `has` told before. One comparison for a row
+    /// behind all that were put, and a search where there are other keys; else some searches.
+    pub fn add(&mut self, alloc: Global, key: &Key, has: bool) -> Result<Option<bool>, AllocError>
+        ensures gains { OnOk result (Gains self.old self.new key.now has) }
+        ensures old { IfOk result (λ before. before ≡ told self.old key.now) }
     {
         if has {
             if self.ends_before(key) {
-                return Ok((self.with_put(key)?, None));
+                self.add_put(alloc, key)?;
+                return Ok(None);
             }
         }
-        self.with_other(key, has)
+        self.add_other(key, has)
     }
 
     /// Whether no write is of a key, and all rows that were put are before it. One comparison, and a search where
@@ -79,26 +81,24 @@ impl Written {
         }
     }
 
-    /// The keys with one that is put behind all rows.
-    fn with_put(self, key: &Key) -> Result<Written, AllocError>
-        requires last { place_of self.put key.now ≡ Err (length self.put) }
-        requires new { get key_cmp self.other key.now ≡ None }
-        ensures { IfOk result (λ made. Gains self made key.now true) }
+    /// Adds a key that is put behind all rows.
+    fn add_put(&mut self, alloc: Global, key: &Key) -> Result<(), AllocError>
+        requires last { place_of self.old.put key.now ≡ Err (length self.old.put) }
+        requires new { get key_cmp self.old.other key.now ≡ None }
+        ensures { OnOk result (Gains self.old self.new key.now true) }
     {
-        let Written { put, other } = self;
-        let put = put.with_last_row(copied(key)?, Value::Unit)?;
-        Ok(Written { put, other })
+        let put = mem::replace(&mut self.put, PlainRows::new(alloc));
+        self.put = put.with_last_row(copied(key)?, Value::Unit)?;
+        Ok(())
     }
 
-    /// The keys with any other.
-    fn with_other(self, key: &Key, has: bool) -> Result<(Written, Option<bool>), AllocError>
-        ensures gains { IfOk result (λ made. Gains self made.0 key.now has) }
-        ensures old { IfOk result (λ made. made.1 ≡ told self key.now) }
+    /// Adds any other, and gives what `has` told before.
+    fn add_other(&mut self, key: &Key, has: bool) -> Result<Option<bool>, AllocError>
+        ensures gains { OnOk result (Gains self.old self.new key.now has) }
+        ensures old { IfOk result (λ before. before ≡ told self.old key.now) }
     {
-        let Written { put, other } = self;
-        let (other, old) = with_key(other, key, has)?;
-        let before = told_first(old, &put, key);
-        Ok((Written { put, other }, before))
+        let old = add_key(&mut self.other, key, has)?;
+        Ok(told_first(old, &self.put, key))
     }
 }
 
@@ -126,18 +126,17 @@ fn has_row(put: &PlainRows, key: &Key) -> bool
     put.get(key).is_some()
 }
 
-/// The written keys with one more, and what was there of it.
-fn with_key(
-    written: BTreeMap<Key, bool>,
+/// Adds a key to the written ones, and gives what was there of it.
+fn add_key(
+    written: &mut BTreeMap<Key, bool>,
     key: &Key,
     has: bool,
-) -> Result<(BTreeMap<Key, bool>, Option<bool>), AllocError>
-    ensures all { IfOk result (λ made. Updates key_cmp written made.0 key.now (Some has)) }
-    ensures old { IfOk result (λ made. made.1 ≡ get key_cmp written key.now) }
+) -> Result<Option<bool>, AllocError>
+    ensures all { OnOk result (Updates key_cmp written.old written.new key.now (Some has)) }
+    ensures old { IfOk result (λ old. old ≡ get key_cmp written.old key.now) }
 {
-    let mut all = written;
-    let old = all.insert(copied(key)?, has)?;
-    Ok((all, old))
+    let old = written.insert(copied(key)?, has)?;
+    Ok(old)
 }
 
 /// A key as a store has it. One search.

@@ -2,8 +2,8 @@
 use Rattle.std.specs.BTreeSet as set
 use Rattle.std.specs.Prelude.{true}
 use Rattle.alto_rules.proofs.Orders.{by_resource_cmp}
-use Rattle.alto_rules.proofs.index.with_resource.Goals as goal
+use Rattle.alto_rules.proofs.index.add_resource.Goals as goal
 
 pub returns : goal.returns
-returns c = by_resource_cmp (λ R. set.Updates R c.args.all c.insert.new.self c.args.more true)
+returns c = by_resource_cmp (λ R. set.Updates R c.args.all.now c.insert.new.self c.args.more true)
     c.in_ok-insert.ensures.updates
