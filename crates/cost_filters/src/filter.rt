@@ -26,7 +26,7 @@ use crate::types::CostType;
 use crate::writing::write_types;
 use alto_names::{NetName, PidName};
 use alto_rows::RowStore;
-use cost_tables::CostTables;
+use cost_tables::{CostTables, Places};
 use json::Writer;
 use net_docs::write_dependent_tags;
 use std::alloc::{AllocError, Global};
@@ -157,52 +157,56 @@ fn write_groups<R: RowStore>(
     ensures { OnOk result (AddsMembers (members_in_order
         (valued (group_made multi (option_map (λ names. names.items) given.now) pairs.now) srcs.now)) out.old out.new) }
 {
-    let mut places = Vec::new(alloc);
+    let mut places = Places::new(alloc);
+    let mut found = Found::none(alloc);
     for src in srcs {
-        write_group(alloc, pairs, multi, src, given, &mut places, out)?;
+        found = write_group(alloc, pairs, multi, src, given, &mut places, found, out)?;
     }
     Ok(())
 }
 
-/// Writes the group of a source with its name, if it has a pair.
+/// Writes the group of a source with its name, if it has a pair. Gives what was found, whose memory is used again.
 fn write_group<R: RowStore>(
     alloc: Global,
     pairs: &Pairs<R>,
     multi: bool,
     src: &PidName,
     given: &Option<Vec<PidName>>,
-    places: &mut Vec<usize>,
+    places: &mut Places,
+    room: Found,
     out: &mut Writer,
-) -> Result<(), AllocError>
+) -> Result<Found, AllocError>
     requires { AreSetIfAny (option_map (λ names. names.items) given.now) }
     ensures { OnOk result (AddsIfAny src.now
         (group_made multi (option_map (λ names. names.items) given.now) pairs.now src.now) out.old out.new) }
 {
     match given {
-        Some(dsts) => write_among(alloc, pairs, multi, src, dsts, places, out),
+        Some(dsts) => write_among(alloc, pairs, multi, src, dsts, places, room, out),
         None => {
             let dsts = pairs.reached(alloc, src)?;
-            write_among(alloc, pairs, multi, src, &dsts, places, out)
+            write_among(alloc, pairs, multi, src, &dsts, places, room, out)
         }
     }
 }
 
-/// Writes the group of a source among these destinations, if it has a pair.
+/// Writes the group of a source among these destinations, if it has a pair. Gives what was found.
 fn write_among<R: RowStore>(
     alloc: Global,
     pairs: &Pairs<R>,
     multi: bool,
     src: &PidName,
     dsts: &[PidName],
-    places: &mut Vec<usize>,
+    places: &mut Places,
+    room: Found,
     out: &mut Writer,
-) -> Result<(), AllocError>
+) -> Result<Found, AllocError>
     requires { IsStrictlySortedBy (slice_cmp nat_cmp) dsts.now }
     ensures { OnOk result (AddsIfAny src.now
         (object_if_any (valued (pair_shown multi pairs.now src.now) dsts.now)) out.old out.new) }
 {
-    let found = pairs.from(alloc, src, dsts, places)?;
-    write_found(multi, src, dsts, &found, out)
+    let found = pairs.from(alloc, src, dsts, places, room)?;
+    write_found(multi, src, dsts, &found, out)?;
+    Ok(found)
 }
 
 /// Writes what was found of destinations with the name of their source, if it is anything.

@@ -1,4 +1,4 @@
-ghost use Rattle.std.specs.Prelude.{◌≡◌, false, OnOk, is_some, option_map, slice_get, unwrap_or};
+ghost use Rattle.std.specs.Prelude.{◌≡◌, [], false, OnOk, is_some, option_map, slice_get, unwrap_or};
 ghost use Rattle.std.specs.List.{list_any};
 ghost use Rattle.cost_filters.specs.Filter.{costs_data};
 ghost use Rattle.cost_filters.specs.Pairs.{costs_shown, if_there};
@@ -6,7 +6,7 @@ ghost use Rattle.cost_filters.specs.Text.{AddsIfAny};
 
 use crate::table::Table;
 use json::Writer;
-use std::alloc::AllocError;
+use std::alloc::{AllocError, Global};
 use std::marker::Model;
 
 /// The pairs of a source with destinations. A contract sees them as a list: for each destination the costs by the
@@ -27,6 +27,22 @@ impl Model for Found {
 }
 
 impl Found {
+    /// None, of no destination. Takes no memory.
+    pub fn none(alloc: Global) -> Found
+        ensures { result ≡ [] }
+    {
+        Found {
+            costs: Table::new(alloc),
+            shown: Vec::new(alloc),
+        }
+    }
+
+    /// The memory of pairs that aren't needed any more: that of the costs, and that of what is shown.
+    pub(crate) fn into_room(self) -> (Table, Vec<bool>) {
+        let Found { costs, shown } = self;
+        (costs, shown)
+    }
+
     /// Those with these costs, where they are shown. Takes no memory.
     pub(crate) fn new(costs: Table, shown: Vec<bool>) -> Found
         ensures { result ≡ costs_shown costs 0 shown.items }

@@ -15,7 +15,7 @@ use crate::types::CostType;
 use alto_names::{NetName, PidName};
 use alto_rows::RowStore;
 use cost_rule::Constraint;
-use cost_tables::CostTables;
+use cost_tables::{CostTables, Places};
 use std::alloc::{AllocError, Global};
 use std::marker::Model;
 
@@ -96,21 +96,23 @@ impl<'a, R: RowStore> Pairs<'a, R> {
         reached_once(alloc, self.rows, self.net, &self.columns, src)
     }
 
-    /// The pairs of a source with destinations.
+    /// The pairs of a source with destinations, in the memory of pairs that aren't needed any more.
     ///
     /// For each type that is asked for or tested one binary search for the source, and for each destination one
-    /// comparison of two names where its place is right, else one binary search. The places guess where the
-    /// destinations stand among those of the source, and become what was found: so they are handed on from source to
-    /// source. Where no constraint tests a pair, no tested type costs anything.
+    /// comparison of two names where its place is right, else one binary search. The places become those that were
+    /// found, so they are handed on from source to source. Where no constraint tests a pair, no tested type costs
+    /// anything.
     pub fn from(
         &self,
         alloc: Global,
         src: &PidName,
         dsts: &[PidName],
-        places: &mut Vec<usize>,
+        places: &mut Places,
+        room: Found,
     ) -> Result<Found, AllocError>
         ensures { IfOk result (λ found. found ≡ map (pair_costs self.now src.now) dsts.now) }
     {
+        let (costs, flags) = room.into_room();
         let told = told_from(
             alloc,
             self.tables,
@@ -119,6 +121,7 @@ impl<'a, R: RowStore> Pairs<'a, R> {
             src,
             dsts,
             places,
+            costs,
         )?;
         let tested = tested_if_any(
             alloc,
@@ -130,7 +133,7 @@ impl<'a, R: RowStore> Pairs<'a, R> {
             dsts,
             places,
         )?;
-        let shown = all_shown(alloc, self.alternatives, &told, &tested, dsts.len())?;
+        let shown = all_shown(alloc, self.alternatives, &told, &tested, dsts.len(), flags)?;
         Ok(Found::new(told, shown))
     }
 }
@@ -144,7 +147,7 @@ fn tested_if_any(
     alternatives: &[Vec<Constraint>],
     src: &PidName,
     dsts: &[PidName],
-    places: &mut Vec<usize>,
+    places: &mut Places,
 ) -> Result<Table, AllocError>
     ensures { IfOk result (λ table. (rows : Rows) → AreCostsOf rows tables.now
         → one_is_empty (map (λ constraints. constraints.items) alternatives.now) ≡ false
@@ -156,19 +159,22 @@ fn tested_if_any(
     tested_from(alloc, tables, net, types, src, dsts, places)
 }
 
-/// Which of so many places of the costs make a pair.
+/// Which of so many places of the costs make a pair, in the memory of flags that aren't needed any more.
 fn all_shown(
     alloc: Global,
     alternatives: &[Vec<Constraint>],
     told: &Table,
     tested: &Table,
     count: usize,
+    room: Vec<bool>,
 ) -> Result<Vec<bool>, AllocError>
     ensures { IfOk result (λ shown. shown.items
         ≡ map (is_shown (map (λ constraints. constraints.items) alternatives.now) told.now tested.now)
         (range_with_len 0 count)) }
 {
-    let mut shown = Vec::with_capacity(alloc, count)?;
+    let mut shown = room;
+    shown.clear();
+    shown.reserve(count)?;
     for at in 0..count {
         shown.push(is_shown(alloc, alternatives, told, tested, at)?)?;
     }

@@ -2,7 +2,7 @@
 ghost use Rattle.std.specs.Prelude.{◌≡◌, ◌++◌, [], ◌∷◌, IfOk, OnOk, map, option_map, slice_get};
 ghost use Rattle.alto_rows.specs.Rows.{Rows};
 ghost use Rattle.alto_maps.specs.Writing.{AddsValue};
-ghost use Rattle.cost_tables.specs.Tables.{AreCostsOf};
+ghost use Rattle.cost_tables.specs.Tables.{AreCostsOf, cost_in};
 ghost use Rattle.cost_docs.specs.CostMap.{number_data};
 ghost use Rattle.cost_filters.specs.Columns.{column_cost, scaled};
 ghost use Rattle.cost_filters.specs.Filter.{costs_data};
@@ -12,8 +12,8 @@ ghost use Rattle.cost_filters.specs.Text.{AddsItems};
 use crate::columns::{Column, Scale, scaled};
 use crate::types::CostType;
 use crate::writing::write_number;
-use alto_names::{NetName, PidName};
-use cost_tables::CostTables;
+use alto_names::{Metric, NetName, PidName};
+use cost_tables::{CostTables, Places};
 use json::Writer;
 use std::alloc::{AllocError, Global};
 use std::marker::Model;
@@ -22,6 +22,8 @@ use std::marker::Model;
 #[derive(Drop)]
 pub(crate) struct Table {
     columns: Vec<Vec<Option<u64>>>,
+    /// Columns that were emptied, of which the memory is used again.
+    spare: Vec<Vec<Option<u64>>>,
 }
 
 impl Model for Table {
@@ -39,7 +41,34 @@ impl Table {
     {
         Table {
             columns: Vec::new(alloc),
+            spare: Vec::new(alloc),
         }
+    }
+
+    /// No column, with the memory of those that were here.
+    fn into_empty(self) -> Table
+        ensures { result ≡ [] }
+    {
+        let Table { columns, spare } = self;
+        let mut none = spare;
+        none.clear();
+        Table {
+            columns: none,
+            spare: columns,
+        }
+    }
+
+    /// An empty column, with the memory of one that was emptied, if there is one.
+    fn spare_column(&mut self, alloc: Global) -> Vec<Option<u64>>
+        ensures column { result.items ≡ [] }
+        ensures rest { self.new ≡ self.old }
+    {
+        let Some(column) = self.spare.pop() else {
+            return Vec::new(alloc);
+        };
+        let mut none = column;
+        none.clear();
+        none
     }
 
     /// Adds a column.
@@ -138,7 +167,7 @@ fn write_each(columns: &[Vec<Option<u64>>], at: usize, out: &mut Writer) -> Resu
     Ok(())
 }
 
-/// The costs of columns from a source to destinations.
+/// The costs of columns from a source to destinations, in the memory of a table that isn't needed any more.
 pub(crate) fn told_from(
     alloc: Global,
     tables: &CostTables,
@@ -146,19 +175,21 @@ pub(crate) fn told_from(
     columns: &[Column],
     src: &PidName,
     dsts: &[PidName],
-    places: &mut Vec<usize>,
+    places: &mut Places,
+    room: Table,
 ) -> Result<Table, AllocError>
     ensures { IfOk result (λ table. (rows : Rows) → AreCostsOf rows tables.now
         → table ≡ told_from rows net.now columns.now src.now dsts.now) }
 {
-    let mut table = Table::new(alloc);
+    let mut table = room.into_empty();
     for column in columns {
-        table.push(column_from(alloc, tables, net, column, src, dsts, places)?)?;
+        let none = table.spare_column(alloc);
+        table.push(column_from(alloc, tables, net, column, src, dsts, places, none)?)?;
     }
     Ok(table)
 }
 
-/// Those of one column.
+/// Those of one column, in the memory of an empty one.
 fn column_from(
     alloc: Global,
     tables: &CostTables,
@@ -166,13 +197,34 @@ fn column_from(
     column: &Column,
     src: &PidName,
     dsts: &[PidName],
-    places: &mut Vec<usize>,
+    places: &mut Places,
+    none: Vec<Option<u64>>,
 ) -> Result<Vec<Option<u64>>, AllocError>
+    requires { none.items ≡ [] }
     ensures { IfOk result (λ costs. (rows : Rows) → AreCostsOf rows tables.now
         → costs.items ≡ map (λ dst. column_cost rows net.now src.now dst column.now) dsts.now) }
 {
-    let costs = tables.costs_to(alloc, net, &column.metric, src, dsts, places)?;
+    let costs = costs_from(tables, net, &column.metric, src, dsts, places, none)?;
     scaled_all(alloc, &column.scale, costs)
+}
+
+/// The costs in a metric from a source to destinations, in the memory of an empty column.
+fn costs_from(
+    tables: &CostTables,
+    net: &NetName,
+    metric: &Metric,
+    src: &PidName,
+    dsts: &[PidName],
+    places: &mut Places,
+    none: Vec<Option<u64>>,
+) -> Result<Vec<Option<u64>>, AllocError>
+    requires { none.items ≡ [] }
+    ensures { IfOk result (λ costs. costs.items ≡ map (cost_in tables.now net.now metric.now src.now) dsts.now) }
+{
+    let mut costs = none;
+    costs.reserve(dsts.len())?;
+    tables.push_costs(net, metric, src, dsts, places, &mut costs)?;
+    Ok(costs)
 }
 
 /// Costs as they are told.
@@ -211,14 +263,15 @@ pub(crate) fn tested_from(
     types: &[CostType],
     src: &PidName,
     dsts: &[PidName],
-    places: &mut Vec<usize>,
+    places: &mut Places,
 ) -> Result<Table, AllocError>
     ensures { IfOk result (λ table. (rows : Rows) → AreCostsOf rows tables.now
         → table ≡ tested_from rows net.now types.now src.now dsts.now) }
 {
     let mut table = Table::new(alloc);
     for one in types {
-        table.push(tables.costs_to(alloc, net, &one.metric, src, dsts, places)?)?;
+        let none = Vec::new(alloc);
+        table.push(costs_from(tables, net, &one.metric, src, dsts, places, none)?)?;
     }
     Ok(table)
 }

@@ -16,7 +16,7 @@ use Rattle.std.specs.declared.cmp.Ordering.{Ordering}
 use Rattle.std.specs.declared.cmp.Ordering.TheVariants.{Less, Equal, Greater}
 use Rattle.alto_rows.specs.Order.{name_cmp, same_name}
 use Rattle.alto_rows.proofs.TouchesLemmas.{one_name}
-use Rattle.cost_tables.specs.declared.from_source.Guess.{Guess}
+use Rattle.cost_tables.specs.declared.places.Guess.{Guess}
 use Rattle.cost_tables.specs.Guesses.{IsGuess}
 use Rattle.cost_tables.specs.Tables.{Costs, Name, cost_to}
 use Rattle.cost_tables.proofs.FromLemmas.{cost_to-place}

@@ -1,6 +1,6 @@
 -- What is read at a place among the costs from a source.
 use Rattle.std.specs.Prelude.{◌≡◌, option_map, slice_get}
-use Rattle.cost_tables.specs.declared.from_source.Guess.{Guess}
+use Rattle.cost_tables.specs.declared.places.Guess.{Guess}
 use Rattle.cost_tables.specs.Tables.{Costs}
 
 -- the cost is the one at the place, if there is one

@@ -3,10 +3,11 @@ ghost use Rattle.std.specs.Prelude.{◌≡◌, ◌++◌, ◌∷◌, [], true, If
 ghost use Rattle.std.specs.Arc.{arc_value};
 ghost use Rattle.std.specs.List.{AllByRecursion};
 ghost use Rattle.alto_rows.specs.Rows.{AreSorted};
-ghost use Rattle.cost_tables.specs.declared.from_source.Guess.{Guess};
+ghost use Rattle.cost_tables.specs.declared.places.Guess.{Guess};
 ghost use Rattle.cost_tables.specs.Guesses.{IsGuess};
 ghost use Rattle.cost_tables.specs.Tables.{cost_to, costs_from};
 
+use crate::places::{Guess, Places, keep_place};
 use alto_names::{Metric, NetName, PidName};
 use alto_rows::{Key, RowStore, Span, Value, rows_in};
 use std::alloc::{AllocError, Global};
@@ -20,13 +21,6 @@ pub(crate) struct FromSource {
     source: PidName,
     destinations: Arc<Vec<PidName>>,
     costs: Vec<u64>,
-}
-
-/// A place among the costs, and the cost there, if there is one.
-#[derive(Clone, Copy)]
-struct Guess {
-    place: usize,
-    cost: Option<u64>,
 }
 
 impl Model for FromSource {
@@ -81,37 +75,35 @@ impl FromSource {
         self.costs.is_empty()
     }
 
-    /// The costs to destinations, one for each. The places guess where the destinations stand, and become those that
-    /// were found: where one is right its destination costs one comparison of names, else one binary search.
-    pub(crate) fn costs_to(
+    /// Puts the costs to destinations at the end, one for each. Where a place is right its destination costs one
+    /// comparison of names, else one binary search. The places become those that were found.
+    pub(crate) fn push_costs(
         &self,
-        alloc: Global,
         destinations: &[PidName],
-        places: &mut Vec<usize>,
-    ) -> Result<Vec<Option<u64>>, AllocError>
-        ensures { IfOk result (λ costs. costs.items ≡ map (cost_to self.now.1) destinations.now) }
+        places: &mut Places,
+        costs: &mut Vec<Option<u64>>,
+    ) -> Result<(), AllocError>
+        ensures { OnOk result (costs.new.items ≡ costs.old.items ++ map (cost_to self.now.1) destinations.now) }
     {
-        let guesses = self.guesses(alloc, places)?;
-        let mut costs = Vec::with_capacity(alloc, destinations.len())?;
-        for destination in destinations {
-            let at = costs.len();
-            let (cost, place) = self.told(destination, guesses.get(at));
+        self.read_ahead(&places.next, &mut places.read)?;
+        for (at, destination) in destinations.iter().enumerate() {
+            let (cost, place) = self.told(destination, places.read.get(at));
             costs.push(cost)?;
-            keep_place(places, at, place)?;
+            keep_place(&mut places.next, at, place)?;
         }
-        Ok(costs)
+        Ok(())
     }
 
-    /// The costs at places. They lie far apart, and are read before any name is looked at, so that one read needn't
-    /// wait for another.
-    fn guesses(&self, alloc: Global, places: &[usize]) -> Result<Vec<Guess>, AllocError>
-        ensures { IfOk result (λ guesses. AllByRecursion (IsGuess self.now.1) guesses.items) }
+    /// Reads the costs at places. They lie far apart, and are read before any name is looked at, so that one read
+    /// needn't wait for another.
+    fn read_ahead(&self, places: &[usize], read: &mut Vec<Guess>) -> Result<(), AllocError>
+        ensures { OnOk result (AllByRecursion (IsGuess self.now.1) read.new.items) }
     {
-        let mut guesses = Vec::with_capacity(alloc, places.len())?;
+        read.clear();
         for place in places {
-            guesses.push(self.guess(*place))?;
+            read.push(self.guess(*place))?;
         }
-        Ok(guesses)
+        Ok(())
     }
 
     /// The cost at a place.
@@ -224,13 +216,4 @@ fn shared(
         }
     }
     Ok(Arc::new(alloc, names)?)
-}
-
-/// Keeps a place as the next guess.
-fn keep_place(places: &mut Vec<usize>, at: usize, place: usize) -> Result<(), AllocError> {
-    match places.get_mut(at) {
-        Some(kept) => *kept = place,
-        None => places.push(place)?,
-    }
-    Ok(())
 }

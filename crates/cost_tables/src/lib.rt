@@ -4,13 +4,15 @@
 //! ```text
 //! rows ── CostTables::of ──▶ CostTables ── after(rows, writes) ──▶ the next ones: of each metric the costs from all
 //!                                                                   sources that the writes left are shared
-//! CostTables ── costs_to(net, metric, source, destinations) ──▶ a cost for each destination, if it has one
+//! CostTables ── push_costs(net, metric, source, destinations) ──▶ a cost for each destination, if it has one
 //! ```
 #![tactic(auto)]
 
 mod from_source;
+mod places;
 mod sources;
 mod table;
 mod tables;
 
+pub use places::Places;
 pub use tables::CostTables;

@@ -1,5 +1,5 @@
 //! The costs of all metrics.
-ghost use Rattle.std.specs.Prelude.{◌≡◌, IfOk, None, map, option_map};
+ghost use Rattle.std.specs.Prelude.{◌≡◌, ◌++◌, IfOk, None, OnOk, map, option_map};
 ghost use Rattle.std.specs.Arc.{arc_value};
 ghost use Rattle.std.specs.Map.{lookup};
 ghost use Rattle.alto_rows.specs.Good.{AreGood};
@@ -8,6 +8,7 @@ ghost use Rattle.alto_rows.specs.Rows as spec;
 ghost use Rattle.alto_rows.specs.Versions.{resources_of};
 ghost use Rattle.cost_tables.specs.Tables.{AreCostsOf, TellsCosts, cost_in, is_of};
 
+use crate::places::Places;
 use crate::table::Table;
 use alto_names::{Metric, NetName, PidName};
 use alto_rows::{Resource, RowStore, Write};
@@ -95,30 +96,30 @@ impl CostTables {
         Ok(CostTables { tables })
     }
 
-    /// The costs in a metric of a network from a source to destinations, one for each, `None` exactly where there is no
-    /// cost.
+    /// Puts the costs in a metric of a network from a source to destinations at the end, one for each, `None` exactly
+    /// where there is no cost.
     ///
     /// One pass over the metrics, one binary search for the source, and for each destination one comparison of two
-    /// names where the place is right, else one binary search. The places guess where the destinations stand among
-    /// those of the source, and become what was found: so they are handed on from source to source.
-    pub fn costs_to(
+    /// names where its place is right, else one binary search. The places become those that were found, so they are
+    /// handed on from source to source.
+    pub fn push_costs(
         &self,
-        alloc: Global,
         net: &NetName,
         metric: &Metric,
         source: &PidName,
         destinations: &[PidName],
-        places: &mut Vec<usize>,
-    ) -> Result<Vec<Option<u64>>, AllocError>
-        ensures { IfOk result (λ costs. costs.items
-            ≡ map (cost_in self.now net.now metric.now source.now) destinations.now) }
+        places: &mut Places,
+        costs: &mut Vec<Option<u64>>,
+    ) -> Result<(), AllocError>
+        ensures { OnOk result (costs.new.items
+            ≡ costs.old.items ++ map (cost_in self.now net.now metric.now source.now) destinations.now) }
     {
         if let Some(table) = self.table(net, metric) {
             if let Some(from) = table.from(source) {
-                return from.costs_to(alloc, destinations, places);
+                return from.push_costs(destinations, places, costs);
             }
         }
-        no_costs(alloc, destinations)
+        push_none(destinations, costs)
     }
 
     /// The costs of a metric after writes that led to these rows.
@@ -169,13 +170,12 @@ fn metric_table(
     })
 }
 
-/// No cost for each of these destinations.
-fn no_costs(alloc: Global, destinations: &[PidName]) -> Result<Vec<Option<u64>>, AllocError>
-    ensures { IfOk result (λ costs. costs.items ≡ map (λ destination. None) destinations.now) }
+/// Puts `None` at the end for each of these destinations.
+fn push_none(destinations: &[PidName], costs: &mut Vec<Option<u64>>) -> Result<(), AllocError>
+    ensures { OnOk result (costs.new.items ≡ costs.old.items ++ map (λ destination. None) destinations.now) }
 {
-    let mut costs = Vec::with_capacity(alloc, destinations.len())?;
     for _ in destinations {
         costs.push(None)?;
     }
-    Ok(costs)
+    Ok(())
 }

@@ -18,7 +18,7 @@ use alto_addr::Addr;
 use alto_names::{NetName, PidName};
 use alto_rows::RowStore;
 use cost_filters::{Found, Pairs, write_types};
-use cost_tables::CostTables;
+use cost_tables::{CostTables, Places};
 use json::Writer;
 use pid_prefix::RangeTable;
 use std::alloc::{AllocError, Global};
@@ -140,9 +140,10 @@ fn found_between<R: RowStore>(
         ≡ map (λ src. map (pair_costs pairs.now src) to.now) from.now) }
 {
     let mut found = Vec::with_capacity(alloc, from.len())?;
-    let mut places = Vec::new(alloc);
+    let mut places = Places::new(alloc);
     for src in from {
-        found.push(pairs.from(alloc, src, to, &mut places)?)?;
+        let none = Found::none(alloc);
+        found.push(pairs.from(alloc, src, to, &mut places, none)?)?;
     }
     Ok(found)
 }

@@ -3,6 +3,7 @@ use crate::desks::{MemDesk, imported, new_desk};
 use crate::draws::Draws;
 use alto_names::{Metric, NetName, PidName};
 use alto_rows::{Key, RowStore, Value};
+use cost_tables::Places;
 use std::alloc::{AllocError, Global};
 use std::test::Fail;
 
@@ -71,11 +72,13 @@ fn compared(alloc: Global, desk: &MemDesk) -> Result<String, Fail> {
     let mut count: u32 = 0;
     for word in ["hopcount", "latency", "routingcost"] {
         let metric = Metric::read(alloc, word.as_bytes())?;
-        let mut places = Vec::new(alloc);
+        let mut places = Places::new(alloc);
+        let mut costs = Vec::new(alloc);
         for source in &pids {
-            let costs = front
+            costs.clear();
+            front
                 .costs()
-                .costs_to(alloc, &net, &metric, source, &pids, &mut places)?;
+                .push_costs(&net, &metric, source, &pids, &mut places, &mut costs)?;
             for (cost, destination) in costs.iter().zip(&pids) {
                 let (src, dst) = (source.clone()?, destination.clone()?);
                 let key = Key::Cost(net.clone()?, metric.clone()?, src, dst);

@@ -1,5 +1,4 @@
 use Rattle.std.proofs.Common.{◌≡◌, ◌∙◌, ap, subst}
-use Rattle.std.proofs.lemmas.Result.{on_ok_weaker}
 use Rattle.cost_filters.specs.Columns.{object_if_any, valued}
 use Rattle.cost_filters.specs.Pairs.{pair_costs, pair_shown}
 use Rattle.cost_filters.specs.Text.{AddsIfAny, found_object}
@@ -15,5 +14,4 @@ returns g c =
     let object : found_object multi dsts c.in_ok-found.found
     ≡ object_if_any (valued (pair_shown multi pairs src) dsts) =
     ap (found_object multi dsts) c.in_ok-found.ensures ∙ object_found (pair_costs pairs src) multi dsts c.requires in
-    on_ok_weaker c.write_found.result (subst (λ value. AddsIfAny src value c.args.out.now c.write_found.new.out) object)
-    c.write_found.ensures
+    subst (λ value. AddsIfAny src value c.args.out.now c.write_found.new.out) object c.in_ok-write_found.ensures

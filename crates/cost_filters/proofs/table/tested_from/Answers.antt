@@ -18,8 +18,8 @@ loop-one-preserved c rows costs =
     let step : drop l.one-index c.args.types.now ≡ type ∷ left =
     rw (drop_more c.args.types.now l.one-index type c.loop-one-test.true, ← c.one-item.is) refl in
     rw c.in_ok-push.ensures
-    (column_more l.table (tested_from rows net left src dsts) _ c.in_ok-costs_to.field-0.items
+    (column_more l.table (tested_from rows net left src dsts) _ c.in_ok-costs_from.field-0.items
     (map (λ dst. cost_of rows net type.metric src dst) dsts)
-    (c.in_ok-costs_to.ensures ∙ costs_told rows c.args.tables.now net type.metric src dsts costs)
+    (c.in_ok-costs_from.ensures ∙ costs_told rows c.args.tables.now net type.metric src dsts costs)
     (ap (λ (types : List CostType). l.table ++ tested_from rows net types src dsts) (sym step)
     ∙ l.invariant rows costs))

@@ -17,7 +17,7 @@ loop-column-preserved c rows costs =
     let left = drop (l.column-index + 1) c.args.columns.now in
     let step : drop l.column-index c.args.columns.now ≡ column ∷ left =
     rw (drop_more c.args.columns.now l.column-index column c.loop-column-test.true, ← c.column-item.is) refl in
-    rw c.in_ok-push.ensures
+    rw (c.in_ok-push.ensures, c.spare_column-none.ensures.rest)
     (column_more l.table (told_from rows net left src dsts) _ c.in_ok-column_from.field-0.items
     (map (λ dst. column_cost rows net src dst column) dsts)
     (c.in_ok-column_from.ensures rows costs)
