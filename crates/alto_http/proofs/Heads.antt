@@ -1,10 +1,16 @@
 -- The end of a head, as more bytes are looked at and as more come.
-use Rattle.std.proofs.Common.{◌≡◌, ℕ, ◌+◌, ◌<◌, ◌≤◌, true, false, eqb, eq-eqb, List, ◌++◌, length, take, drop, ap, sym}
+use Rattle.std.proofs.Common.{◌≡◌, ℕ, ◌+◌, ◌-◌, ◌<◌, ◌≤◌, Bool, true, false, refl, eqb, eq-eqb, eqb-true, List, [], ◌∷◌, ◌++◌, length}
+use Rattle.std.proofs.Common.{take, drop, get_or, ap, sym}
 use Rattle.std.proofs.Common.{◌∙◌, arith, tests, ⊎_elim, length-take, length-append}
-use Rattle.std.proofs.lemmas.Bool.{cases_lt, cond-true, cond-false}
+use Rattle.std.proofs.lemmas.Bool.{and_parts, cases_lt, cond-true, cond-false, false≢true}
 use Rattle.std.proofs.lemmas.List.Folds.{prefix_len-append}
 use Rattle.std.proofs.lemmas.List.Sums.{prefix_len-le-length}
-use Rattle.std.proofs.lemmas.List.{take-append-le, take-append-drop}
+use Rattle.std.proofs.lemmas.Grind.{take_at_read}
+use Rattle.std.proofs.lemmas.List.{drop-append-le, take-append-le, take-append-drop}
+use Rattle.std.specs.Cmp.Lexicographic.{pointwise}
+use Rattle.std.specs.List.{ends_with}
+use Rattle.std.specs.Prelude.{nat_eq}
+use Rattle.httparse.specs.Ascii.{line_feed, carriage_return}
 use Rattle.alto_http.specs.Head.{is_break, breaks_before, ends_in_empty_line, HasNoEnd, IsHeadEnd}
 
 -- one prefix more is looked at
@@ -14,6 +20,55 @@ no_end_more bytes n before here m h =
     ⊎_elim (λ lt. before m (omega arith))
     (λ ge. let e : m ≡ n + 1 = omega arith in ap (λ k. ends_in_empty_line (take k bytes)) e ∙ here)
     (cases_lt m (n + 1))
+
+-- of texts that are the same byte by byte the last bytes are the same
+last_same : (needle : List ℕ) (last : ℕ) (xs : List ℕ) (b : ℕ)
+    → pointwise nat_eq (needle ++ last ∷ []) (xs ++ b ∷ []) ≡ true → nat_eq last b ≡ true
+last_same [] last [] b same = (and_parts (nat_eq last b) true same).0
+last_same [] last (x ∷ []) b same = absurd (false≢true (and_parts (nat_eq last x) false same).1)
+last_same [] last (x ∷ y ∷ xs) b same = absurd (false≢true (and_parts (nat_eq last x) false same).1)
+last_same (n ∷ []) last [] b same = absurd (false≢true (and_parts (nat_eq n b) false same).1)
+last_same (n ∷ m ∷ needle) last [] b same = absurd (false≢true (and_parts (nat_eq n b) false same).1)
+last_same (n ∷ needle) last (x ∷ xs) b same =
+    last_same needle last xs b (and_parts (nat_eq n x) (pointwise nat_eq (needle ++ last ∷ []) (xs ++ b ∷ [])) same).1
+
+-- bytes that end with a text end with its last byte
+ends_same : (a : List ℕ) (b : ℕ) (needle : List ℕ) (last : ℕ)
+    → ends_with nat_eq (a ++ b ∷ []) (needle ++ last ∷ []) ≡ true → nat_eq last b ≡ true
+ends_same a b needle last ends =
+    let n = length (a ++ b ∷ []) - length (needle ++ last ∷ []) in
+    let short : n ≤ length a = omega (arith, length-append a (b ∷ []), length-append needle (last ∷ [])) in
+    last_same needle last (drop n a) b
+    (ap (pointwise nat_eq (needle ++ last ∷ [])) (sym (drop-append-le n a (b ∷ []) short)) ∙ ends)
+
+-- bytes that don't end with a line feed don't end in an empty line
+pub no_end_here : (a : List ℕ) (b : ℕ) → nat_eq line_feed b ≡ false → ends_in_empty_line (a ++ b ∷ []) ≡ false
+no_end_here a b other =
+    rw (no (line_feed ∷ []), no (line_feed ∷ carriage_return ∷ [])) refl
+  where
+    no : (needle : List ℕ) → ends_with nat_eq (a ++ b ∷ []) (needle ++ line_feed ∷ []) ≡ false
+    no needle = by (ends_with nat_eq (a ++ b ∷ []) (needle ++ line_feed ∷ [])) refl
+      where
+        by : (e : Bool) → ends_with nat_eq (a ++ b ∷ []) (needle ++ line_feed ∷ []) ≡ e
+            → ends_with nat_eq (a ++ b ∷ []) (needle ++ line_feed ∷ []) ≡ false
+        by true ends =
+            absurd (false≢true (sym other ∙ ends_same a b needle line_feed ends))
+        by false ends = ends
+
+-- numbers that differ are told apart
+pub apart : (a b : ℕ) → (a ≡ b → ⊥) → nat_eq a b ≡ false
+apart a b differ = by (nat_eq a b) refl
+  where
+    by : (e : Bool) → nat_eq a b ≡ e → nat_eq a b ≡ false
+    by true same = absurd (differ (eqb-true a b same))
+    by false other = other
+
+-- bytes up to one that is no line feed don't end in an empty line
+pub no_end_at : (bytes : List ℕ) (at : ℕ) → at < length bytes → (get_or bytes at 0 ≡ line_feed → ⊥)
+    → ends_in_empty_line (take (at + 1) bytes) ≡ false
+no_end_at bytes at within other =
+    ap ends_in_empty_line (take_at_read bytes at 0 within).1
+    ∙ no_end_here (take at bytes) (get_or bytes at 0) (apart line_feed (get_or bytes at 0) (λ same. other (sym same)))
 
 -- line breaks behind a prefix that is all line breaks
 pub breaks_behind : (bytes : List ℕ) (n : ℕ) → n ≤ length bytes → breaks_before (take n bytes) ≡ n

@@ -1,5 +1,5 @@
 //! Where the head of a request stands among the bytes.
-ghost use Rattle.std.specs.Prelude.{◌≡◌, ◌≤◌, ◌+◌, length, take, drop, IfSome, IfNone};
+ghost use Rattle.std.specs.Prelude.{◌≡◌, ◌<◌, ◌≤◌, ◌+◌, length, take, drop, IfSome, IfNone};
 ghost use Rattle.alto_http.specs.Head.{is_break, breaks_before, ends_in_empty_line, HasNoEnd, IsHeadEnd, line_feeds};
 
 /// How many CR and LF bytes come first, where the first `passed` are such; only what stands behind
@@ -39,6 +39,15 @@ fn ends_in_empty_line(bytes: &[u8]) -> bool
     bytes.ends_with(b"\n\n") || bytes.ends_with(b"\n\r\n")
 }
 
+/// Whether the bytes up to the one at a place, which they have, end in an empty line. Most bytes are no LF, and then
+/// no other is looked at.
+fn ends_empty_line(bytes: &[u8], at: usize) -> bool
+    requires { at < length bytes.now }
+    ensures { result ≡ ends_in_empty_line (take (at + 1) bytes.now) }
+{
+    bytes[at] == b'\n' && ends_in_empty_line(&bytes[..at + 1])
+}
+
 /// How many bytes the head has that begins here, where its end is there. No prefix of up to `from`
 /// bytes is a head; only what stands behind them is looked at.
 pub(crate) fn head_end(bytes: &[u8], from: usize) -> Option<usize>
@@ -48,7 +57,7 @@ pub(crate) fn head_end(bytes: &[u8], from: usize) -> Option<usize>
     ensures none { IfNone result (HasNoEnd (length bytes.now) bytes.now) }
 {
     for at in from..bytes.len() {
-        if ends_in_empty_line(&bytes[..at + 1]) {
+        if ends_empty_line(bytes, at) {
             return Some(at + 1);
         }
     }
