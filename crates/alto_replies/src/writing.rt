@@ -1,12 +1,13 @@
 ghost use Rattle.std.specs.Prelude.{◌≡◌, ◌≢◌, true, [], ◌++◌, codes, decimal, length, is_some, unwrap_or, Some, IfOk};
 ghost use Rattle.std.specs.Prelude.{OnOk, IsTrue, string_bytes};
 ghost use Rattle.alto_replies.specs.Reply.{IsReply, bytes_of, head_of, phrase_of, status_line, type_field};
-ghost use Rattle.alto_replies.specs.Reply.{length_field, verb_text, allow_field, close_field};
+ghost use Rattle.alto_replies.specs.Reply.{length_field, line, verb_text, allow_field, close_field};
 ghost use Rattle.alto_http.specs.declared.request.Verb.TheVariants as verb;
 
 use crate::body::Body;
 use crate::reply::Reply;
 use alto_http::Verb;
+use itoa::Buffer;
 use std::alloc::{AllocError, Global};
 
 /// Room for a head, which few are longer than.
@@ -63,22 +64,25 @@ fn write_status(head: &mut String, status: u16) -> Result<(), AllocError>
     requires { is_some (phrase_of status) ≡ true }
     ensures { OnOk result (string_bytes head.new ≡ string_bytes head.old ++ status_line status) }
 {
-    let phrase = phrase(status);
-    write!(head, "HTTP/1.1 {status} {phrase}\r\n")
+    let mut digits = Buffer::new();
+    head.push_str("HTTP/1.1 ")?;
+    head.push_str(digits.format(status))?;
+    write_line(head, " ", phrase(status))
 }
 
 #[tactic(auto, unfolding(crate::specs::Reply::type_field))]
 fn write_type(head: &mut String, media_type: &str) -> Result<(), AllocError>
     ensures { OnOk result (string_bytes head.new ≡ string_bytes head.old ++ type_field media_type.now) }
 {
-    write!(head, "Content-Type: {media_type}\r\n")
+    write_line(head, "Content-Type: ", media_type)
 }
 
 #[tactic(auto, unfolding(crate::specs::Reply::length_field))]
 fn write_length(head: &mut String, size: usize) -> Result<(), AllocError>
     ensures { OnOk result (string_bytes head.new ≡ string_bytes head.old ++ length_field size) }
 {
-    write!(head, "Content-Length: {size}\r\n")
+    let mut digits = Buffer::new();
+    write_line(head, "Content-Length: ", digits.format(size))
 }
 
 #[tactic(auto, unfolding(crate::specs::Reply::allow_field))]
@@ -86,11 +90,19 @@ fn write_allow(head: &mut String, allow: Option<Verb>) -> Result<(), AllocError>
     requires { allow ≢ Some verb.Other }
     ensures { OnOk result (string_bytes head.new ≡ string_bytes head.old ++ allow_field allow) }
 {
-    let Some(method) = allow else {
-        return Ok(());
-    };
-    let method = method_text(method);
-    write!(head, "Allow: {method}\r\n")
+    match allow {
+        Some(method) => write_line(head, "Allow: ", method_text(method)),
+        None => Ok(()),
+    }
+}
+
+/// Writes a line, or the rest of one: a text, and one behind it.
+fn write_line(head: &mut String, first: &str, second: &str) -> Result<(), AllocError>
+    ensures { OnOk result (string_bytes head.new ≡ string_bytes head.old ++ line (first.now ++ second.now)) }
+{
+    head.push_str(first)?;
+    head.push_str(second)?;
+    head.push_str("\r\n")
 }
 
 #[tactic(auto, unfolding(crate::specs::Reply::close_field))]
