@@ -4,7 +4,7 @@ use Rattle.std.proofs.Math.Seq.{take-append-add}
 use Rattle.std.proofs.lemmas.List.{take-append-le}
 use Rattle.std.specs.Prelude.{List, [], ◌∷◌, ◌++◌, Option, Some, None, Result, Ok, Err, OnErr, length, take}
 use Rattle.alto_http.specs.Link.{extended}
-use Rattle.alto_serve.specs.Writing.{BreaksOff, IsOutTo}
+use Rattle.alto_serve.specs.Writing.{EndsAtWriteFault, IsOutTo}
 
 -- what holds holds of a failure
 pub on_err : {A E P : Type 0} (r : Result A E) → P → OnErr r P
@@ -40,8 +40,8 @@ both_out out mid out' first second left a b none =
     })
 
 -- the first of two pieces broke off
-pub first_breaks : (out out' : Option (List ℕ)) (first second : List ℕ) → BreaksOff out first out'
-    → BreaksOff out (first ++ second) out'
+pub first_breaks : (out out' : Option (List ℕ)) (first second : List ℕ) → EndsAtWriteFault out first out'
+    → EndsAtWriteFault out (first ++ second) out'
 first_breaks out out' first second cut = (
   cut.0,
   omega (arith, cut.1, length-append first second),
@@ -50,7 +50,7 @@ first_breaks out out' first second cut = (
 
 -- the second did
 pub second_breaks : (out mid out' : Option (List ℕ)) (first second : List ℕ) → mid ≡ extended out first
-    → BreaksOff mid second out' → BreaksOff out (first ++ second) out'
+    → EndsAtWriteFault mid second out' → EndsAtWriteFault out (first ++ second) out'
 second_breaks out mid out' first second a cut = (
   length first + cut.0,
   omega (arith, cut.1, length-append first second),
@@ -75,8 +75,8 @@ part_out out mid out' bytes gathered left part more before one = record {
 
 -- a part broke off
 pub part_breaks : (out mid out' : Option (List ℕ)) (bytes gathered part more : List ℕ)
-    → IsOutTo out bytes mid (gathered ++ (part ++ more)) → BreaksOff mid (gathered ++ part) out'
-    → BreaksOff out bytes out'
+    → IsOutTo out bytes mid (gathered ++ (part ++ more)) → EndsAtWriteFault mid (gathered ++ part) out'
+    → EndsAtWriteFault out bytes out'
 part_breaks out mid out' bytes gathered part more before cut =
     rw before.whole
     (second_breaks out mid out' before.front (gathered ++ (part ++ more)) before.written
@@ -84,6 +84,6 @@ part_breaks out mid out' bytes gathered part more before cut =
 
 -- the rest broke off
 pub rest_breaks : (out mid out' : Option (List ℕ)) (bytes rest : List ℕ) → IsOutTo out bytes mid rest
-    → BreaksOff mid rest out' → BreaksOff out bytes out'
+    → EndsAtWriteFault mid rest out' → EndsAtWriteFault out bytes out'
 rest_breaks out mid out' bytes rest before cut =
     rw before.whole (second_breaks out mid out' before.front rest before.written cut)

@@ -7,7 +7,7 @@ ghost use Rattle.alto_serve.specs.Events.{IsGrown};
 ghost use Rattle.alto_serve.specs.Steps.{Becomes, Finishes, GoesOn, HasReply};
 ghost use Rattle.alto_serve.specs.Steps.{reads_at, so_far, writes_at};
 ghost use Rattle.alto_serve.specs.Turns.{setting_of};
-ghost use Rattle.alto_serve.specs.Writing.{BreaksOff, IsOutTo};
+ghost use Rattle.alto_serve.specs.Writing.{EndsAtWriteFault, IsOutTo};
 
 use crate::clock::Clock;
 use crate::end::End;
@@ -150,7 +150,7 @@ fn respond<F: Office, L: Link, C: Clock>(
 /// none.
 fn write_parts<L: Link>(link: &mut L, front: Vec<u8>, rest: &Body) -> Result<(), WriteFault>
     ensures ok { OnOk result (L.out link.new ≡ extended (L.out link.old) (front.items ++ rest.now)) }
-    ensures err { OnErr result (BreaksOff (L.out link.old) (front.items ++ rest.now) (L.out link.new)) }
+    ensures err { OnErr result (EndsAtWriteFault (L.out link.old) (front.items ++ rest.now) (L.out link.new)) }
     ensures counted { L.failed_writes link.new ≡ count_after result (L.failed_writes link.old) }
     ensures left { L.left link.new ≡ L.left link.old }
     ensures failed_reads { L.failed_reads link.new ≡ L.failed_reads link.old }
@@ -171,7 +171,7 @@ fn write_behind<L: Link>(
 ) -> Result<Vec<u8>, WriteFault>
     ensures ok { IfOk result (λ left.
         IsOutTo (L.out link.old) (gathered.items ++ part.now) (L.out link.new) left.items) }
-    ensures err { OnErr result (BreaksOff (L.out link.old) (gathered.items ++ part.now) (L.out link.new)) }
+    ensures err { OnErr result (EndsAtWriteFault (L.out link.old) (gathered.items ++ part.now) (L.out link.new)) }
     ensures counted { L.failed_writes link.new ≡ count_after result (L.failed_writes link.old) }
     ensures left { L.left link.new ≡ L.left link.old }
     ensures failed_reads { L.failed_reads link.new ≡ L.failed_reads link.old }
