@@ -1,4 +1,4 @@
-ghost use Rattle.std.specs.Prelude.{◌≡◌, ◌+◌, ◌*◌, ◌/◌, ◌%◌, ◌<◌, ◌^◌, IfOk, string_bytes};
+ghost use Rattle.std.specs.Prelude.{◌≡◌, ◌+◌, ◌*◌, ◌/◌, ◌%◌, ◌<◌, ◌^◌, ◌++◌, IfOk, OnOk, string_bytes};
 ghost use Rattle.alto_addr.specs.Text.{number_after, octets_of, groups_of, addr_text};
 ghost use Rattle.std.specs.Net.Addr.{ipv4_octets, ipv6_segments};
 
@@ -79,19 +79,31 @@ fn colon_hex(number: u128) -> Ipv6Addr
     )
 }
 
-/// Writes an address in its one form (RFC 5952): lower case, no leading zeros, and the longest run of two or more zero
-/// groups as `::`, the first on a tie. No part of an IPv6 address is written with dots.
+/// The length of the longest text that is written of an address.
+const LONGEST: usize = 39;
+
+/// Writes an address as [`write_addr`] does. Takes memory once.
 pub fn print_addr(alloc: Global, addr: &Addr) -> Result<String, AllocError>
     ensures { IfOk result (λ text. string_bytes text ≡ addr_text addr.now) }
+{
+    let mut text = String::with_capacity(alloc, LONGEST)?;
+    write_addr(&mut text, addr)?;
+    Ok(text)
+}
+
+/// Puts an address at the end in its one form (RFC 5952): lower case, no leading zeros, and the longest run of two or
+/// more zero groups as `::`, the first on a tie. No part of an IPv6 address is written with dots.
+pub fn write_addr(text: &mut String, addr: &Addr) -> Result<(), AllocError>
+    ensures { OnOk result (string_bytes text.new ≡ string_bytes text.old ++ addr_text addr.now) }
 {
     match *addr {
         Addr::V4(number) => {
             let ip = dotted(number);
-            format!(in alloc; "{ip}")
+            write!(text, "{ip}")
         }
         Addr::V6(number) => {
             let ip = colon_hex(number).hex_groups();
-            format!(in alloc; "{ip}")
+            write!(text, "{ip}")
         }
     }
 }

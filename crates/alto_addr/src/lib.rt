@@ -11,7 +11,7 @@ mod prefix;
 mod reading;
 mod token;
 
-pub use addr::{Addr, print_addr};
+pub use addr::{Addr, print_addr, write_addr};
 pub use fault::AddrFault;
 pub use laws::{
     address_reads_as_written, inner_addresses_are_outer, longest_run_is_elided, order_is_by_family,

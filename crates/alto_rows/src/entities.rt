@@ -14,7 +14,7 @@ ghost use Rattle.alto_rows.specs.declared.entity.Entity.TheVariants as entity;
 use crate::entity::Entity;
 use crate::packed::PackedPrefix;
 use crate::pieces::{behind, read_name};
-use alto_addr::{Addr, Prefix, print_addr, print_prefix, read_addr, read_prefix};
+use alto_addr::{Addr, Prefix, print_prefix, read_addr, read_prefix, write_addr};
 use alto_names::{NetName, PidName};
 use json_tree::Name;
 use std::alloc::{AllocError, Global};
@@ -31,14 +31,26 @@ pub fn entity_reads_as_written()
         → WritesEntity net (entity_text net entity) entity }
 {}
 
-/// Writes a typed address (RFC 7285, section 10.4.1).
+/// The length of the longest text that is written of a typed address.
+const LONGEST_TYPED: usize = 44;
+
+/// Writes a typed address (RFC 7285, section 10.4.1). Takes memory once.
 pub fn print_typed_addr(alloc: Global, addr: &Addr) -> Result<Name, AllocError>
     ensures { IfOk result (λ text. text ≡ typed_addr_text addr.now) }
 {
-    let text = print_addr(alloc, addr)?;
+    let mut text = String::with_capacity(alloc, LONGEST_TYPED)?;
+    text.push_str(type_tag(addr))?;
+    write_addr(&mut text, addr)?;
+    Ok(Name::new(text))
+}
+
+/// What is written of an address's type.
+fn type_tag(addr: &Addr) -> &'static str
+    ensures { result.now ≡ spec.type_tag addr.now }
+{
     match addr {
-        Addr::V4(_) => Ok(Name::new(format!(in alloc; "ipv4:{text}")?)),
-        Addr::V6(_) => Ok(Name::new(format!(in alloc; "ipv6:{text}")?)),
+        Addr::V4(_) => "ipv4:",
+        Addr::V6(_) => "ipv6:",
     }
 }
 
@@ -81,11 +93,9 @@ fn print_block(alloc: Global, block: &Prefix) -> Result<Name, AllocError>
 fn print_typed_prefix(alloc: Global, block: &Prefix) -> Result<Name, AllocError>
     ensures { IfOk result (λ text. text ≡ spec.type_tag block.now.addr ++ prefix_text block.now.addr block.now.len) }
 {
+    let tag = type_tag(&block.addr);
     let text = print_prefix(alloc, block)?;
-    match block.addr {
-        Addr::V4(_) => Ok(Name::new(format!(in alloc; "ipv4:{text}")?)),
-        Addr::V6(_) => Ok(Name::new(format!(in alloc; "ipv6:{text}")?)),
-    }
+    Ok(Name::new(format!(in alloc; "{tag}{text}")?))
 }
 
 /// Reads an entity of a network: `None` exactly where the text writes none. Only a PID takes memory.
