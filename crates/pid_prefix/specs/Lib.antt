@@ -5,3 +5,4 @@ pub mod Blocks
 pub mod Sweep
 pub mod Families
 pub mod Table
+pub mod RowPlace

@@ -5,6 +5,7 @@ ghost use Rattle.pid_prefix.specs.Ranges as spec;
 
 use crate::number::Number;
 use crate::range::Range;
+use crate::row_place::RowPlace;
 use crate::sought::Sought;
 use crate::steps::Steps;
 use std::alloc::{AllocError, Global};
@@ -13,14 +14,12 @@ use std::marker::Model;
 use std::sync::ledger::Ledger;
 
 /// Ranges, kept for a search: it reads their firsts alone, which stand apart from the rows, in as few bytes as the
-/// family's addresses take. A contract sees the list of ranges.
+/// family's addresses take; a row takes four. A contract sees the list of ranges.
 #[derive(Drop)]
 pub(crate) struct Ranges<N: Number> {
     firsts: Vec<N>,
-    rows: Vec<Option<usize>>,
+    rows: Vec<RowPlace>,
 }
-
-const _: () = prove!(size_of::<Option<usize>>() == 16);
 
 impl<N: Number> Model for Ranges<N> {
     ghost use Rattle.std.specs.Prelude.{◌≡◌, List, length, map};
@@ -44,7 +43,7 @@ impl<N: Number> Ranges<N> {
         for range in ranges {
             if let Some(first) = N::narrowed(range.first) {
                 firsts.push(first)?;
-                rows.push(range.row)?;
+                rows.push(RowPlace::new(range.row)?)?;
             }
         }
         Ok(Ranges { firsts, rows })
@@ -62,7 +61,7 @@ impl<N: Number> Ranges<N> {
         ensures cost { 2 ^ (steps.new - steps.old) ≤ 2 * length self.now + 1 }
     {
         let last = count_begun(&self.firsts, sought, steps).checked_sub(1)?;
-        self.rows[last]
+        self.rows[last].get()
     }
 }
 

@@ -18,7 +18,7 @@ use std::sync::ledger::{Blank, Ledger};
 /// Distinct prefixes with their PIDs, built for look-ups. A contract sees the list that it was built from.
 ///
 /// It keeps the list, 64 bytes for each prefix, and its PIDs once more, 8 bytes each, so that those which look-ups give
-/// lie together; and 2 ranges for a prefix at most: of 20 bytes each in IPv4, of which a search reads 4, and of 32 in
+/// lie together; and 2 ranges for a prefix at most: of 8 bytes each in IPv4, of which a search reads 4, and of 20 in
 /// IPv6, of which it reads 16. Names are shared.
 #[derive(Drop)]
 pub struct RangeTable {

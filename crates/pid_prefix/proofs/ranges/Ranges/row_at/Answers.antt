@@ -39,9 +39,10 @@ returns-clause-row g c =
     let behind : c.count_begun.result ≡ last + 1 = omega (arith, is.0, is.1) in
     let low : last < length t.firsts.items =
     omega (arith, is.0, is.1, c.count_begun.ensures.within, ap length c.deref.ensures.value) in
-    c.index.ensures
+    c.get.ensures
+    ∙ (c.index.ensures
     ∙ (sym (row_before g.N.Number.value t.firsts.items t.rows.items last c.index.result.now c.self.invariant low)
-    ∙ (ap (λ at. last_row None (take at ranges)) (sym behind) ∙ found))
+    ∙ (ap (λ at. last_row None (take at ranges)) (sym behind) ∙ found)))
 
 pub returns-clause-cost : goal.returns-clause-cost
 returns-clause-cost g c =
