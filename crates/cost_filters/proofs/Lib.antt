@@ -7,3 +7,4 @@ pub mod PairLemmas
 pub mod FilterLemmas
 pub mod PairsLemmas
 pub mod TextLemmas
+pub mod PlainLemmas

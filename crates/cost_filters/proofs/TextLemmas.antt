@@ -1,5 +1,6 @@
 -- Groups that are written in byte order are those of the filtered map.
-use Rattle.std.proofs.Common.{◌≡◌, ◌<◌, ◌∙◌, ◌+◌, ℕ, zero, suc, refl, ap, sym, subst, arith, append-nil, drop, length}
+use Rattle.std.proofs.Common.{◌≡◌, ◌<◌, ◌∙◌, ◌+◌, ℕ, zero, suc, refl, ap, sym, subst, arith, append_assoc, append-nil, drop}
+use Rattle.std.proofs.Common.{length}
 use Rattle.std.proofs.lemmas.List.Kept.{IsStrictlySortedBy-filter}
 use Rattle.std.proofs.lemmas.Map.Text.{is_eq-slice_cmp}
 use Rattle.std.specs.Prelude.{Bool, true, false, ◌||◌, cond, List, [], ◌∷◌, ◌++◌, filter, map, Option, Some, None}
@@ -10,11 +11,11 @@ use Rattle.std.specs.List.Sorted.{IsStrictlySortedBy}
 use Rattle.std.specs.Ordering.{is_eq, nat_cmp}
 use Rattle.std.specs.declared.cmp.Ordering.{Ordering}
 use Rattle.std.specs.declared.cmp.Ordering.TheVariants.{Less, Equal, Greater}
-use Rattle.json.specs.Tree.{members_tokens}
 use Rattle.json.specs.Written.{Written}
 use Rattle.serde_json.specs.Data.{Data, object, member, no_members}
 use Rattle.serde_json.specs.Find.{get_member}
-use Rattle.serde_json.specs.Written.{members_outline}
+use Rattle.serde_json.specs.Written.{comma_if, compact_text, members_text}
+use Rattle.json.specs.Print.{quoted}
 use Rattle.json_tree.specs.Document.{members_of, object_of, with_member}
 use Rattle.json_tree.specs.Order.{AreInOrder, names_of}
 use Rattle.json_tree.specs.Tree.{members_in_order}
@@ -22,14 +23,15 @@ use Rattle.json_tree.proofs.Lookups.{one_name}
 use Rattle.json_tree.proofs.OrderLemmas.{same_members}
 use Rattle.alto_rows.specs.Good.{AreGood}
 use Rattle.alto_rows.specs.Rows.{Rows, AreSorted}
-use Rattle.alto_maps.specs.Shape.{Name, same_name, section_object}
+use Rattle.alto_rows.proofs.ResourceLemmas.{or_false, or_true}
+use Rattle.alto_maps.specs.Shape.{Face, Name, document, same_name, section_object}
 use Rattle.alto_maps.specs.Writing.{AddsMember, AddsMembers}
 use Rattle.alto_maps.specs.Places.{set_of}
 use Rattle.alto_maps.proofs.SetLemmas.{Rise, any-set_of, rise-set_of}
 use Rattle.alto_maps.proofs.WritingLemmas.{member_more}
 use Rattle.net_docs.specs.declared.ask.Pick.{Pick}
 use Rattle.net_docs.specs.declared.ask.Pick.TheVariants as pick
-use Rattle.cost_docs.specs.CostMap.{destinations_of}
+use Rattle.cost_docs.specs.CostMap.{cost_shape, destinations_of}
 use Rattle.cost_docs.proofs.OrderLemmas.{destinations_rise}
 use Rattle.cost_filters.specs.declared.columns.Column.{Column}
 use Rattle.cost_filters.specs.Ask.{CostAskData}
@@ -39,7 +41,7 @@ use Rattle.cost_filters.specs.Filter.{costs_data, costs_of, filtered_face, is_pa
 use Rattle.cost_tables.specs.Tables.{IsSetOf}
 use Rattle.cost_filters.specs.Names.{AreSetIfAny, names_given}
 use Rattle.cost_filters.specs.Pairs.{PairsData, group_shown, if_there, pair_shown, pairs_of}
-use Rattle.cost_filters.specs.Text.{AddsIfAny, found_object, group_made, shown_members}
+use Rattle.cost_filters.specs.Text.{PutsIfAny, found_object, group_made, shown_members}
 use Rattle.cost_filters.proofs.FilterLemmas.{groups_shown}
 use Rattle.cost_filters.proofs.ValuedLemmas.{found-valued, has_some, in_order-members_of, some-members_of}
 
@@ -248,23 +250,41 @@ meta_single true types tags old mid new is first second = cc
 meta_single false types tags old mid new is first second =
     two_members (types_name false) (codes "dependent-vtags") types tags old mid new first second
 
+-- ---- the whole text
+
+-- the groups, and behind them the meta
+pub document_text : (face : Face) (opened section comma meta whole : List ℕ)
+    → opened ≡ 123 ∷ (quoted (codes "cost-map") ++ 58 ∷ [])
+    → section ≡ opened ++ compact_text (section_object face)
+    → comma ≡ section ++ 44 ∷ []
+    → meta ≡ comma ++ (quoted (codes "meta") ++ 58 ∷ compact_text face.meta)
+    → whole ≡ meta ++ 125 ∷ []
+    → whole ≡ compact_text (document cost_shape face)
+unfolding document with_member
+document_text face opened section comma meta whole a b c d e = rw (e, d, c, b, a) (simp append_assoc refl)
+
 -- ---- steps of loops
 
--- what stands before the text stays
-pub any_before : (name : Name) (value : Option Data) (old new : Written) → AddsIfAny name value old new
-    → new.before ≡ old.before
-any_before name None old new added = added.before
-any_before name (Some d) old new added = added.before
+-- a comma, a name and a value are a member
+pub member_put : (name : Name) (value : Data) (later : Bool) (old comma named new : List ℕ)
+    → comma ≡ old ++ comma_if later → named ≡ comma ++ (quoted name ++ 58 ∷ []) → new ≡ named ++ compact_text value
+    → PutsIfAny name (Some value) later old true new
+member_put name value later old comma named new a b c =
+    record { text = rw (c, b, a) (simp append_assoc refl); behind = sym (or_true later) }
 
--- a member that was written if there is one, before those that are left
-pub any_more : (name : Name) (value : Option Data) (left : List (Name × Data)) (old new : Written)
-    → AddsIfAny name value old new
-    → new.tokens ++ members_tokens (members_outline (members_in_order left))
-    ≡ old.tokens ++ members_tokens
-    (members_outline (members_in_order (cons_option (option_map (λ found. (name, found)) value) left)))
-any_more name None left old new added =
-    ap (λ ts. ts ++ members_tokens (members_outline (members_in_order left))) added.tokens
-any_more name (Some d) left old new added = member_more name d (members_in_order left) old new added
+-- where there is no value nothing is put
+pub none_put : (name : Name) (later : Bool) (old : List ℕ) → PutsIfAny name None later old later old
+none_put name later old = record { text = sym (append-nil old); behind = sym (or_false later) }
+
+-- a member that was put if there is one, before those that are left
+pub any_more : (name : Name) (value : Option Data) (left : List (Name × Data)) (later after : Bool) (old new : List ℕ)
+    → PutsIfAny name value later old after new
+    → new ++ members_text after (members_in_order left)
+    ≡ old ++ members_text later (members_in_order (cons_option (option_map (λ found. (name, found)) value) left))
+any_more name None left later after old new put =
+    rw (put.text, put.behind, or_false later, append-nil old) refl
+any_more name (Some d) left later after old new put =
+    rw (put.text, put.behind, or_true later) (simp append_assoc refl)
 
 none_left : (multi : Bool) (dsts : List Name) → shown_members multi dsts [] ≡ []
 none_left multi [] = refl
@@ -296,12 +316,12 @@ shown_next multi dst dsts left found at step =
 
 -- the members that are left behind that of the next destination
 pub shown_more : (multi : Bool) (dst : Name) (dsts left : List Name) (found : List (Option (List (Option ℕ)))) (at : ℕ)
-    (old new : Written) → dsts ≡ dst ∷ left
-    → AddsIfAny dst (option_map (costs_data multi) (if_there (slice_get found at))) old new
-    → new.tokens ++ members_tokens (members_outline (members_in_order (shown_members multi left (drop (at + 1) found))))
-    ≡ old.tokens ++ members_tokens (members_outline (members_in_order (shown_members multi dsts (drop at found))))
-shown_more multi dst dsts left found at old new step added =
+    (later after : Bool) (old new : List ℕ) → dsts ≡ dst ∷ left
+    → PutsIfAny dst (option_map (costs_data multi) (if_there (slice_get found at))) later old after new
+    → new ++ members_text after (members_in_order (shown_members multi left (drop (at + 1) found)))
+    ≡ old ++ members_text later (members_in_order (shown_members multi dsts (drop at found)))
+shown_more multi dst dsts left found at later after old new step put =
     any_more dst (option_map (costs_data multi) (if_there (slice_get found at)))
-    (shown_members multi left (drop (at + 1) found)) old new added
-    ∙ ap (λ ms. old.tokens ++ members_tokens (members_outline (members_in_order ms)))
+    (shown_members multi left (drop (at + 1) found)) later after old new put
+    ∙ ap (λ ms. old ++ members_text later (members_in_order ms))
     (sym (shown_next multi dst dsts left found at step))

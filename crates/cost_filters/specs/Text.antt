@@ -1,28 +1,34 @@
--- What a writer adds for the groups of a filtered cost map.
-use Rattle.std.specs.Prelude.{◌≡◌, ℕ, List, [], ◌∷◌, ◌++◌, Bool, Option, Some, None, is_some, if◌then◌else◌}
+-- The text of the groups of a filtered cost map (RFC 8259), with no space.
+use Rattle.std.specs.Prelude.{◌≡◌, ℕ, List, [], ◌∷◌, ◌++◌, Bool, not, ◌&&◌, ◌||◌, ◌==◌, nat_lt, Option, Some, None}
+use Rattle.std.specs.Prelude.{is_some, if◌then◌else◌}
 use Rattle.std.specs.List.{list_any}
+use Rattle.json.specs.Print.{quoted}
 use Rattle.json.specs.Token.{end_array}
 use Rattle.json.specs.Tree.{items_tokens}
 use Rattle.json.specs.Written.{Written}
 use Rattle.serde_json.specs.Data.{Data, object}
 use Rattle.serde_json.specs.View.{items_of}
-use Rattle.serde_json.specs.Written.{items_outline}
+use Rattle.serde_json.specs.Written.{comma_if, compact_text, items_outline}
 use Rattle.json_tree.specs.Tree.{members_in_order}
 use Rattle.alto_maps.specs.Shape.{Name}
-use Rattle.alto_maps.specs.Writing.{AddsMember}
 use Rattle.cost_filters.specs.Columns.{columns_of, object_if_any, reached, valued}
 use Rattle.cost_filters.specs.Filter.{costs_data}
 use Rattle.cost_filters.specs.Pairs.{PairsData, pair_shown}
 
--- nothing
-pub record AddsNothing (old new : Written) : Type 0 where
-  pub tokens : new.tokens ≡ old.tokens
-  pub before : new.before ≡ old.before
+-- a byte that stands for itself between quotes
+abbrev pub is_plain : ℕ → Bool
+is_plain b = not (nat_lt b 32) && not (b == 34) && not (b == 92)
 
--- a member, where there is a value
-abbrev pub AddsIfAny : Name → Option Data → Written → Written → Type 0
-AddsIfAny name (Some value) old new = AddsMember name value old new
-AddsIfAny name None old new = AddsNothing old new
+-- a member, where there is a value, behind a comma, where one stands before
+abbrev pub member_if_any : Bool → Name → Option Data → List ℕ
+member_if_any later name (Some value) = comma_if later ++ (quoted name ++ 58 ∷ compact_text value)
+member_if_any later name None = []
+
+-- such a member is put at the end of bytes, and whether one stands before the next is told
+pub record PutsIfAny (name : Name) (value : Option Data) (later : Bool) (old : List ℕ) (after : Bool) (new : List ℕ)
+    : Type 0 where
+  pub text : new ≡ old ++ member_if_any later name value
+  pub behind : after ≡ (later || is_some value)
 
 -- all values of a list that was begun and isn't ended yet
 pub record AddsItems (values : List Data) (old new : Written) : Type 0 where

@@ -1,8 +1,8 @@
 //! Fields inside fields.
 ghost use Rattle.std.specs.Prelude.{◌≡◌, ◌≢◌, Ok, Err, IfOk, IfErr, is_some, string_bytes};
-ghost use Rattle.serde_json.specs.Find.{as_array, as_object};
+ghost use Rattle.serde_json.specs.Find.{as_array, as_object, as_str};
 ghost use Rattle.json_tree.specs.Tree.{data_of, items_data};
-ghost use Rattle.alto_asks.specs.Asks.{items_in, wrong_text};
+ghost use Rattle.alto_asks.specs.Asks.{items_in, text_in, wrong_text};
 ghost use Rattle.cost_filters.specs.Fields.{items_at, nested, object_in, text_at, wrong_value};
 
 use alto_asks::{AskCode, AskFault};
@@ -87,10 +87,26 @@ pub(crate) fn text_at<'t>(
     ensures err { IfErr result (λ fault. fault ≢ AskFault.Memory
         → text_at field.now name.now (data_of object.now) ≡ Err fault) }
 {
-    let path = nested(alloc, field, name)?;
     match object.member(name) {
-        Some(value) => alto_asks::text_in(alloc, &path, value),
-        None => Err(AskFault::missing(alloc, &path)?),
+        Some(value) => member_text(alloc, field, name, value),
+        None => Err(AskFault::missing(alloc, &nested(alloc, field, name)?)?),
+    }
+}
+
+/// The text that a member of a field's value is.
+fn member_text<'t>(
+    alloc: Global,
+    field: &str,
+    name: &str,
+    value: &'t Tree,
+) -> Result<&'t str, AskFault>
+    ensures ok { IfOk result (λ text. text_in (nested field.now name.now) (as_str (data_of value.now)) ≡ Ok text.now) }
+    ensures err { IfErr result (λ fault. fault ≢ AskFault.Memory
+        → text_in (nested field.now name.now) (as_str (data_of value.now)) ≡ Err fault) }
+{
+    match value.as_text() {
+        Some(text) => Ok(text),
+        None => Err(AskFault::wrong_type(alloc, &nested(alloc, field, name)?)?),
     }
 }
 
@@ -105,9 +121,26 @@ pub fn items_at<'t>(
     ensures err { IfErr result (λ fault. fault ≢ AskFault.Memory
         → items_at field.now name.now (data_of object.now) ≡ Err fault) }
 {
-    let path = nested(alloc, field, name)?;
     match object.member(name) {
-        Some(value) => items_in(alloc, &path, value),
+        Some(value) => member_items(alloc, field, name, value),
         None => Ok(&[]),
+    }
+}
+
+/// The items of the list that a member of a field's value is.
+fn member_items<'t>(
+    alloc: Global,
+    field: &str,
+    name: &str,
+    value: &'t Tree,
+) -> Result<&'t [Tree], AskFault>
+    ensures ok { IfOk result (λ items.
+        items_in (nested field.now name.now) (as_array (data_of value.now)) ≡ Ok (items_data items.now)) }
+    ensures err { IfErr result (λ fault. fault ≢ AskFault.Memory
+        → items_in (nested field.now name.now) (as_array (data_of value.now)) ≡ Err fault) }
+{
+    match value.as_list() {
+        Some(items) => Ok(items),
+        None => Err(AskFault::wrong_type(alloc, &nested(alloc, field, name)?)?),
     }
 }

@@ -1,27 +1,28 @@
 //! The filtered cost map as JSON text, written without a tree.
-ghost use Rattle.std.specs.Prelude.{◌≡◌, [], ◌∷◌, codes, IfOk, OnOk, option_map};
+ghost use Rattle.std.specs.Prelude.{◌≡◌, ◌++◌, [], ◌∷◌, false, codes, IfOk, OnOk, option_map};
 ghost use Rattle.std.specs.Cmp.Lexicographic.{slice_cmp};
 ghost use Rattle.std.specs.List.Sorted.{IsStrictlySortedBy};
 ghost use Rattle.std.specs.Ordering.{nat_cmp};
-ghost use Rattle.serde_json.specs.Written.{compact_text};
+ghost use Rattle.serde_json.specs.Written.{compact_text, members_text};
 ghost use Rattle.json_tree.specs.Document.{members_of};
 ghost use Rattle.json_tree.specs.Tree.{members_in_order};
 ghost use Rattle.alto_rows.specs.Good.{AreGood};
 ghost use Rattle.cost_tables.specs.Tables.{AreCostsOf};
 ghost use Rattle.alto_maps.specs.Shape.{section_object};
-ghost use Rattle.alto_maps.specs.Writing.{AddsMember, AddsMembers, AddsValue};
+ghost use Rattle.alto_maps.specs.Writing.{AddsMember, AddsMembers};
 ghost use Rattle.net_docs.specs.NetworkMap.{dependent_tags};
 ghost use Rattle.cost_filters.specs.Columns.{object_if_any, valued};
 ghost use Rattle.cost_filters.specs.Filter.{filtered_costs, filtered_face, filtered_meta};
 ghost use Rattle.cost_filters.specs.Filter.{types_data, types_name};
 ghost use Rattle.cost_filters.specs.Names.{AreSetIfAny};
 ghost use Rattle.cost_filters.specs.Pairs.{pair_shown};
-ghost use Rattle.cost_filters.specs.Text.{AddsIfAny, group_made, found_object, shown_members};
+ghost use Rattle.cost_filters.specs.Text.{PutsIfAny, group_made, found_object, shown_members};
 
 use crate::ask::CostAsk;
 use crate::found::Found;
 use crate::names::{names_given, srcs_of};
 use crate::pairs::Pairs;
+use crate::text::{push_comma, push_name};
 use crate::types::CostType;
 use crate::writing::write_types;
 use alto_names::{NetName, PidName};
@@ -52,28 +53,15 @@ pub fn filter_cost_text<R: RowStore>(
     requires costs { AreCostsOf (R.rows rows.now) tables.now }
     ensures { IfOk result (λ bytes. bytes.items ≡ compact_text (filtered_costs (R.rows rows.now) net.now ask.now)) }
 {
-    let mut out = Writer::new(Vec::with_capacity(alloc, FIRST_ROOM)?);
-    write_map(alloc, rows, tables, net, ask, &mut out)?;
-    Ok(out.into_inner())
-}
-
-/// Writes the map.
-fn write_map<R: RowStore>(
-    alloc: Global,
-    rows: &R,
-    tables: &CostTables,
-    net: &NetName,
-    ask: &CostAsk,
-    out: &mut Writer,
-) -> Result<(), AllocError>
-    requires good { AreGood (R.rows rows.now) }
-    requires costs { AreCostsOf (R.rows rows.now) tables.now }
-    ensures { OnOk result (AddsValue (filtered_costs (R.rows rows.now) net.now ask.now) out.old out.new) }
-{
-    out.begin_object()?;
-    write_section(alloc, rows, tables, net, ask, out)?;
-    write_meta(alloc, rows, net, ask, out)?;
-    out.end_object()
+    let mut text = Vec::with_capacity(alloc, FIRST_ROOM)?;
+    text.extend_from_slice(b"{\"cost-map\":")?;
+    push_section(alloc, rows, tables, net, ask, &mut text)?;
+    text.push(b',')?;
+    let mut out = Writer::new(text);
+    write_meta(alloc, rows, net, ask, &mut out)?;
+    let mut whole = out.into_inner();
+    whole.push(b'}')?;
+    Ok(whole)
 }
 
 /// Writes the meta with its name: the cost types, and the version tag of the network map.
@@ -113,19 +101,19 @@ fn write_meta_members<R: RowStore>(
     write_dependent_tags(alloc, rows, net, out)
 }
 
-/// Writes the groups with their name.
-fn write_section<R: RowStore>(
+/// Puts the object of the groups.
+fn push_section<R: RowStore>(
     alloc: Global,
     rows: &R,
     tables: &CostTables,
     net: &NetName,
     ask: &CostAsk,
-    out: &mut Writer,
+    out: &mut Vec<u8>,
 ) -> Result<(), AllocError>
     requires good { AreGood (R.rows rows.now) }
     requires costs { AreCostsOf (R.rows rows.now) tables.now }
-    ensures { OnOk result (AddsMember (codes "cost-map")
-        (section_object (filtered_face (R.rows rows.now) net.now ask.now)) out.old out.new) }
+    ensures { OnOk result (out.new.items ≡ out.old.items
+        ++ compact_text (section_object (filtered_face (R.rows rows.now) net.now ask.now))) }
 {
     let pairs = Pairs::new(
         alloc,
@@ -138,35 +126,48 @@ fn write_section<R: RowStore>(
     )?;
     let srcs = srcs_of(alloc, rows, net, &ask.srcs)?;
     let given = names_given(alloc, &ask.dsts)?;
-    out.key("cost-map")?;
-    out.begin_object()?;
-    write_groups(alloc, &pairs, ask.multi, &srcs, &given, out)?;
-    out.end_object()
+    out.push(b'{')?;
+    push_groups(alloc, &pairs, ask.multi, &srcs, &given, out)
 }
 
-/// Writes the groups of those of these sources that have a pair.
-fn write_groups<R: RowStore>(
+/// Puts the groups of those of these sources that have a pair, with the brace behind them.
+fn push_groups<R: RowStore>(
     alloc: Global,
     pairs: &Pairs<R>,
     multi: bool,
     srcs: &[PidName],
     given: &Option<Vec<PidName>>,
-    out: &mut Writer,
+    out: &mut Vec<u8>,
 ) -> Result<(), AllocError>
     requires { AreSetIfAny (option_map (λ names. names.items) given.now) }
-    ensures { OnOk result (AddsMembers (members_in_order
-        (valued (group_made multi (option_map (λ names. names.items) given.now) pairs.now) srcs.now)) out.old out.new) }
+    ensures { OnOk result (out.new.items ≡ out.old.items ++ members_text false (members_in_order
+        (valued (group_made multi (option_map (λ names. names.items) given.now) pairs.now) srcs.now))) }
 {
     let mut places = Places::new(alloc);
-    let mut found = Found::none(alloc);
+    let mut room = Found::none(alloc);
+    let mut later = false;
     for src in srcs {
-        found = write_group(alloc, pairs, multi, src, given, &mut places, found, out)?;
+        let (after, found) = push_group(
+            alloc,
+            pairs,
+            multi,
+            src,
+            given,
+            &mut places,
+            room,
+            later,
+            out,
+        )?;
+        later = after;
+        room = found;
     }
+    out.push(b'}')?;
     Ok(())
 }
 
-/// Writes the group of a source with its name, if it has a pair. Gives what was found, whose memory is used again.
-fn write_group<R: RowStore>(
+/// Puts the group of a source, if it has a pair. Tells whether a group stands before the next, and gives what was
+/// found, whose memory is used again.
+fn push_group<R: RowStore>(
     alloc: Global,
     pairs: &Pairs<R>,
     multi: bool,
@@ -174,23 +175,25 @@ fn write_group<R: RowStore>(
     given: &Option<Vec<PidName>>,
     places: &mut Places,
     room: Found,
-    out: &mut Writer,
-) -> Result<Found, AllocError>
+    later: bool,
+    out: &mut Vec<u8>,
+) -> Result<(bool, Found), AllocError>
     requires { AreSetIfAny (option_map (λ names. names.items) given.now) }
-    ensures { OnOk result (AddsIfAny src.now
-        (group_made multi (option_map (λ names. names.items) given.now) pairs.now src.now) out.old out.new) }
+    ensures { IfOk result (λ put. PutsIfAny src.now
+        (group_made multi (option_map (λ names. names.items) given.now) pairs.now src.now)
+        later out.old.items put.0 out.new.items) }
 {
     match given {
-        Some(dsts) => write_among(alloc, pairs, multi, src, dsts, places, room, out),
+        Some(dsts) => push_among(alloc, pairs, multi, src, dsts, places, room, later, out),
         None => {
             let dsts = pairs.reached(alloc, src)?;
-            write_among(alloc, pairs, multi, src, &dsts, places, room, out)
+            push_among(alloc, pairs, multi, src, &dsts, places, room, later, out)
         }
     }
 }
 
-/// Writes the group of a source among these destinations, if it has a pair. Gives what was found.
-fn write_among<R: RowStore>(
+/// Puts the group of a source among these destinations, if it has a pair, as `push_group` does.
+fn push_among<R: RowStore>(
     alloc: Global,
     pairs: &Pairs<R>,
     multi: bool,
@@ -198,48 +201,56 @@ fn write_among<R: RowStore>(
     dsts: &[PidName],
     places: &mut Places,
     room: Found,
-    out: &mut Writer,
-) -> Result<Found, AllocError>
+    later: bool,
+    out: &mut Vec<u8>,
+) -> Result<(bool, Found), AllocError>
     requires { IsStrictlySortedBy (slice_cmp nat_cmp) dsts.now }
-    ensures { OnOk result (AddsIfAny src.now
-        (object_if_any (valued (pair_shown multi pairs.now src.now) dsts.now)) out.old out.new) }
+    ensures { IfOk result (λ put. PutsIfAny src.now
+        (object_if_any (valued (pair_shown multi pairs.now src.now) dsts.now))
+        later out.old.items put.0 out.new.items) }
 {
     let found = pairs.from(alloc, src, dsts, places, room)?;
-    write_found(multi, src, dsts, &found, out)?;
-    Ok(found)
+    let after = push_found(multi, src, dsts, &found, later, out)?;
+    Ok((after, found))
 }
 
-/// Writes what was found of destinations with the name of their source, if it is anything.
-fn write_found(
+/// Puts what was found of destinations as a member with the name of their source, if it is anything. Tells whether a
+/// member stands before the next.
+fn push_found(
     multi: bool,
     src: &PidName,
     dsts: &[PidName],
     found: &Found,
-    out: &mut Writer,
-) -> Result<(), AllocError>
-    ensures { OnOk result (AddsIfAny src.now (found_object multi dsts.now found.now) out.old out.new) }
+    later: bool,
+    out: &mut Vec<u8>,
+) -> Result<bool, AllocError>
+    ensures { IfOk result (λ after. PutsIfAny src.now (found_object multi dsts.now found.now)
+        later out.old.items after out.new.items) }
 {
     if !found.has_pair() {
-        return Ok(());
+        return Ok(later);
     }
-    out.key(src.as_str())?;
-    out.begin_object()?;
-    write_members(multi, dsts, found, out)?;
-    out.end_object()
+    push_comma(later, out)?;
+    push_name(src.as_str(), out)?;
+    out.push(b'{')?;
+    push_members(multi, dsts, found, out)?;
+    Ok(true)
 }
 
-/// Writes each of the destinations of which something was found.
-fn write_members(
+/// Puts each of the destinations of which something was found, with the brace behind them.
+fn push_members(
     multi: bool,
     dsts: &[PidName],
     found: &Found,
-    out: &mut Writer,
+    out: &mut Vec<u8>,
 ) -> Result<(), AllocError>
-    ensures { OnOk result (AddsMembers
-        (members_in_order (shown_members multi dsts.now found.now)) out.old out.new) }
+    ensures { OnOk result (out.new.items ≡ out.old.items ++ members_text false
+        (members_in_order (shown_members multi dsts.now found.now))) }
 {
+    let mut later = false;
     for (at, dst) in dsts.iter().enumerate() {
-        found.write_pair(multi, dst.as_str(), at, out)?;
+        later = found.push_pair(multi, dst.as_str(), at, later, out)?;
     }
+    out.push(b'}')?;
     Ok(())
 }

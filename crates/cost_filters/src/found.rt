@@ -1,11 +1,11 @@
-ghost use Rattle.std.specs.Prelude.{◌≡◌, [], false, OnOk, is_some, option_map, slice_get, unwrap_or};
+ghost use Rattle.std.specs.Prelude.{◌≡◌, [], false, IfOk, is_some, option_map, slice_get, unwrap_or};
 ghost use Rattle.std.specs.List.{list_any};
 ghost use Rattle.cost_filters.specs.Filter.{costs_data};
 ghost use Rattle.cost_filters.specs.Pairs.{costs_shown, if_there};
-ghost use Rattle.cost_filters.specs.Text.{AddsIfAny};
+ghost use Rattle.cost_filters.specs.Text.{PutsIfAny};
 
 use crate::table::Table;
-use json::Writer;
+use crate::text::{push_comma, push_name};
 use std::alloc::{AllocError, Global};
 use std::marker::Model;
 
@@ -64,23 +64,26 @@ impl Found {
         is_set(&self.shown, at)
     }
 
-    /// Writes the costs of the pair at a place with a name, if there is one: in the form of several a list, else the
-    /// one.
-    pub fn write_pair(
+    /// Puts the costs of the pair at a place as a member of this name, if there is one: in the form of several a list,
+    /// else the one. Tells whether a member stands before the next.
+    pub fn push_pair(
         &self,
         multi: bool,
         name: &str,
         at: usize,
-        out: &mut Writer,
-    ) -> Result<(), AllocError>
-        ensures { OnOk result (AddsIfAny name.now
-            (option_map (costs_data multi) (if_there (slice_get self.now at))) out.old out.new) }
+        later: bool,
+        out: &mut Vec<u8>,
+    ) -> Result<bool, AllocError>
+        ensures { IfOk result (λ after. PutsIfAny name.now
+            (option_map (costs_data multi) (if_there (slice_get self.now at))) later out.old.items after out.new.items) }
     {
-        if is_set(&self.shown, at) {
-            out.key(name)?;
-            return self.costs.write_costs(multi, at, out);
+        if !is_set(&self.shown, at) {
+            return Ok(later);
         }
-        Ok(())
+        push_comma(later, out)?;
+        push_name(name, out)?;
+        self.costs.push_costs(multi, at, out)?;
+        Ok(true)
     }
 }
 

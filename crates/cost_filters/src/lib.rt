@@ -19,6 +19,7 @@ mod names;
 mod pairs;
 mod picks;
 mod table;
+mod text;
 mod types;
 mod writing;
 
@@ -29,5 +30,6 @@ pub use filter::filter_cost_text;
 pub use found::Found;
 pub use names::distinct;
 pub use pairs::Pairs;
+pub use text::{push_comma, push_name};
 pub use types::{AskedTypes, CostType, read_types};
 pub use writing::write_types;

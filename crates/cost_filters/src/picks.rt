@@ -37,7 +37,7 @@ fn pick_of(alloc: Global, texts: &[&str]) -> Result<Pick, AllocError>
 fn pid_names(alloc: Global, texts: &[&str]) -> Result<Vec<PidName>, AllocError>
     ensures { IfOk result (λ names. names.items ≡ filter is_pid_name (map (λ text. text.now) texts.now)) }
 {
-    let mut names = Vec::new(alloc);
+    let mut names = Vec::with_capacity(alloc, texts.len())?;
     for text in texts {
         match PidName::read(alloc, text.as_bytes()) {
             Ok(name) => names.push(name)?,

@@ -1,20 +1,19 @@
 //! Costs by column, each column with one for each destination.
-ghost use Rattle.std.specs.Prelude.{◌≡◌, ◌++◌, [], ◌∷◌, IfOk, OnOk, map, option_map, slice_get};
+ghost use Rattle.std.specs.Prelude.{◌≡◌, ◌++◌, [], ◌∷◌, false, IfOk, OnOk, map, option_map, slice_get};
 ghost use Rattle.alto_rows.specs.Rows.{Rows};
-ghost use Rattle.alto_maps.specs.Writing.{AddsValue};
+ghost use Rattle.serde_json.specs.View.{items_of};
+ghost use Rattle.serde_json.specs.Written.{compact_text, items_text};
 ghost use Rattle.cost_tables.specs.Tables.{AreCostsOf, cost_in};
 ghost use Rattle.cost_docs.specs.CostMap.{number_data};
 ghost use Rattle.cost_filters.specs.Columns.{column_cost, scaled};
 ghost use Rattle.cost_filters.specs.Filter.{costs_data};
 ghost use Rattle.cost_filters.specs.Pairs.{costs_at, has_cost, if_there, told_from, tested_from};
-ghost use Rattle.cost_filters.specs.Text.{AddsItems};
 
 use crate::columns::{Column, Scale, scaled};
+use crate::text::{push_comma, push_cost};
 use crate::types::CostType;
-use crate::writing::write_number;
 use alto_names::{Metric, NetName, PidName};
 use cost_tables::{CostTables, Places};
-use json::Writer;
 use std::alloc::{AllocError, Global};
 use std::marker::Model;
 
@@ -93,16 +92,17 @@ impl Table {
         has_cost(&self.columns, at)
     }
 
-    /// Writes the costs at a place of the columns: in the form of several a list, else the one.
-    pub(crate) fn write_costs(
+    /// Puts the costs at a place of the columns: in the form of several a list, else the one.
+    pub(crate) fn push_costs(
         &self,
         multi: bool,
         at: usize,
-        out: &mut Writer,
+        out: &mut Vec<u8>,
     ) -> Result<(), AllocError>
-        ensures { OnOk result (AddsValue (costs_data multi (costs_at at self.now)) out.old out.new) }
+        ensures { OnOk result (out.new.items
+            ≡ out.old.items ++ compact_text (costs_data multi (costs_at at self.now))) }
     {
-        write_costs(&self.columns, multi, at, out)
+        push_costs(&self.columns, multi, at, out)
     }
 }
 
@@ -137,33 +137,37 @@ fn has_cost(columns: &[Vec<Option<u64>>], at: usize) -> bool
     false
 }
 
-fn write_costs(
+fn push_costs(
     columns: &[Vec<Option<u64>>],
     multi: bool,
     at: usize,
-    out: &mut Writer,
+    out: &mut Vec<u8>,
 ) -> Result<(), AllocError>
-    ensures { OnOk result (AddsValue
-        (costs_data multi (costs_at at (map (λ column. column.items) columns.now))) out.old out.new) }
+    ensures { OnOk result (out.new.items ≡ out.old.items
+        ++ compact_text (costs_data multi (costs_at at (map (λ column. column.items) columns.now)))) }
 {
     if multi {
-        out.begin_array()?;
-        write_each(columns, at, out)?;
-        return out.end_array();
+        out.push(b'[')?;
+        return push_each(columns, at, out);
     }
     match columns.first() {
-        Some(column) => write_number(cost_at(column, at), out),
-        None => out.null(),
+        Some(column) => push_cost(cost_at(column, at), out),
+        None => push_cost(None, out),
     }
 }
 
-fn write_each(columns: &[Vec<Option<u64>>], at: usize, out: &mut Writer) -> Result<(), AllocError>
-    ensures { OnOk result (AddsItems
-        (map number_data (costs_at at (map (λ column. column.items) columns.now))) out.old out.new) }
+/// Puts the costs at a place of columns, with the bracket behind them.
+fn push_each(columns: &[Vec<Option<u64>>], at: usize, out: &mut Vec<u8>) -> Result<(), AllocError>
+    ensures { OnOk result (out.new.items ≡ out.old.items ++ items_text false
+        (items_of (map number_data (costs_at at (map (λ column. column.items) columns.now))))) }
 {
+    let mut later = false;
     for column in columns {
-        write_number(cost_at(column, at), out)?;
+        push_comma(later, out)?;
+        push_cost(cost_at(column, at), out)?;
+        later = true;
     }
+    out.push(b']')?;
     Ok(())
 }
 

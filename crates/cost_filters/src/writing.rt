@@ -1,7 +1,6 @@
 //! Costs and cost types as JSON text.
 ghost use Rattle.std.specs.Prelude.{◌≡◌, map, OnOk};
 ghost use Rattle.alto_maps.specs.Writing.{AddsMember, AddsValue};
-ghost use Rattle.cost_docs.specs.CostMap.{number_data};
 ghost use Rattle.cost_filters.specs.Filter.{mode_of, type_data, types_data, types_name};
 ghost use Rattle.cost_filters.specs.Text.{AddsItems};
 
@@ -9,16 +8,6 @@ use crate::types::CostType;
 use json::Writer;
 use net_docs::write_text;
 use std::alloc::AllocError;
-
-/// Writes a cost, null where there is none.
-pub(crate) fn write_number(cost: Option<u64>, out: &mut Writer) -> Result<(), AllocError>
-    ensures { OnOk result (AddsValue (number_data cost) out.old out.new) }
-{
-    match cost {
-        Some(number) => out.u64(number),
-        None => out.null(),
-    }
-}
 
 /// Writes the cost types with their name: in the form of several a list, else the one.
 pub fn write_types(multi: bool, types: &[CostType], out: &mut Writer) -> Result<(), AllocError>

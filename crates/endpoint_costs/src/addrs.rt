@@ -53,7 +53,7 @@ fn addrs_in(alloc: Global, field: &str, items: &[Tree]) -> Result<Vec<Addr>, Ask
     ensures err { IfErr result (λ fault. fault ≢ AskFault.Memory
         → ReadsAddrs field.now (items_data items.now) (Err fault)) }
 {
-    let mut addrs = Vec::new(alloc);
+    let mut addrs = Vec::with_capacity(alloc, items.len())?;
     for item in items {
         addrs.push(addr_in(alloc, field, item)?)?;
     }

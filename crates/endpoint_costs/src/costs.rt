@@ -1,10 +1,9 @@
-ghost use Rattle.std.specs.Prelude.{◌≡◌, [], ◌∷◌, codes, IfOk, OnOk, map};
+ghost use Rattle.std.specs.Prelude.{◌≡◌, ◌++◌, codes, IfOk, OnOk, map};
 ghost use Rattle.std.specs.List.{AllByRecursion};
 ghost use Rattle.serde_json.specs.Written.{compact_text};
-ghost use Rattle.json_tree.specs.Document.{object_of};
 ghost use Rattle.alto_rows.specs.Good.{AreGood};
 ghost use Rattle.alto_rows.specs.Prefixes.{prefixes_in};
-ghost use Rattle.alto_maps.specs.Writing.{AddsMember, AddsValue};
+ghost use Rattle.alto_maps.specs.Writing.{AddsMember};
 ghost use Rattle.cost_tables.specs.Tables.{AreCostsOf};
 ghost use Rattle.cost_filters.specs.Pairs.{pair_costs};
 ghost use Rattle.endpoint_costs.specs.Costs.{endpoint_costs, endpoint_meta, pairs_object};
@@ -12,7 +11,7 @@ ghost use Rattle.endpoint_costs.specs.Spots.{IsWritten};
 
 use crate::ask::EndAsk;
 use crate::endpoint::{Endpoint, endpoints_at};
-use crate::groups::write_groups;
+use crate::groups::push_groups;
 use crate::spots::{pids_of, spots_of};
 use alto_addr::Addr;
 use alto_names::{NetName, PidName};
@@ -51,34 +50,15 @@ pub fn endpoint_cost_text<R: RowStore>(
 {
     let srcs = endpoints_at(alloc, table, &ask.srcs, peer)?;
     let dsts = endpoints_at(alloc, table, &ask.dsts, peer)?;
-    let mut out = Writer::new(Vec::with_capacity(alloc, FIRST_ROOM)?);
-    write_map(alloc, rows, tables, net, ask, srcs, dsts, &mut out)?;
-    Ok(out.into_inner())
-}
-
-/// Writes the document.
-fn write_map<R: RowStore>(
-    alloc: Global,
-    rows: &R,
-    tables: &CostTables,
-    net: &NetName,
-    ask: &EndAsk,
-    srcs: Vec<Endpoint>,
-    dsts: Vec<Endpoint>,
-    out: &mut Writer,
-) -> Result<(), AllocError>
-    requires good { AreGood (R.rows rows.now) }
-    requires costs { AreCostsOf (R.rows rows.now) tables.now }
-    requires srcs { AllByRecursion (IsWritten (prefixes_in (R.rows rows.now) net.now)) srcs.items }
-    requires dsts { AllByRecursion (IsWritten (prefixes_in (R.rows rows.now) net.now)) dsts.items }
-    ensures { OnOk result (AddsValue (object_of ((codes "meta", endpoint_meta ask.now)
-        ∷ (codes "endpoint-cost-map", pairs_object (R.rows rows.now) net.now ask.now srcs.items dsts.items) ∷ []))
-        out.old out.new) }
-{
-    out.begin_object()?;
-    write_section(alloc, rows, tables, net, ask, srcs, dsts, out)?;
-    write_meta(ask, out)?;
-    out.end_object()
+    let mut text = Vec::with_capacity(alloc, FIRST_ROOM)?;
+    text.extend_from_slice(b"{\"endpoint-cost-map\":")?;
+    push_section(alloc, rows, tables, net, ask, srcs, dsts, &mut text)?;
+    text.push(b',')?;
+    let mut out = Writer::new(text);
+    write_meta(ask, &mut out)?;
+    let mut whole = out.into_inner();
+    whole.push(b'}')?;
+    Ok(whole)
 }
 
 /// Writes the meta with its name: the cost types.
@@ -91,8 +71,8 @@ fn write_meta(ask: &EndAsk, out: &mut Writer) -> Result<(), AllocError>
     out.end_object()
 }
 
-/// Writes each source that has a pair, with its pairs, with their name.
-fn write_section<R: RowStore>(
+/// Puts the object of the sources that have a pair, each with its pairs.
+fn push_section<R: RowStore>(
     alloc: Global,
     rows: &R,
     tables: &CostTables,
@@ -100,14 +80,14 @@ fn write_section<R: RowStore>(
     ask: &EndAsk,
     srcs: Vec<Endpoint>,
     dsts: Vec<Endpoint>,
-    out: &mut Writer,
+    out: &mut Vec<u8>,
 ) -> Result<(), AllocError>
     requires good { AreGood (R.rows rows.now) }
     requires costs { AreCostsOf (R.rows rows.now) tables.now }
     requires srcs { AllByRecursion (IsWritten (prefixes_in (R.rows rows.now) net.now)) srcs.items }
     requires dsts { AllByRecursion (IsWritten (prefixes_in (R.rows rows.now) net.now)) dsts.items }
-    ensures { OnOk result (AddsMember (codes "endpoint-cost-map")
-        (pairs_object (R.rows rows.now) net.now ask.now srcs.items dsts.items) out.old out.new) }
+    ensures { OnOk result (out.new.items ≡ out.old.items
+        ++ compact_text (pairs_object (R.rows rows.now) net.now ask.now srcs.items dsts.items)) }
 {
     let pairs = Pairs::new(
         alloc,
@@ -123,10 +103,8 @@ fn write_section<R: RowStore>(
     let found = found_between(alloc, &pairs, &from, &to)?;
     let srcs = spots_of(alloc, srcs, &from)?;
     let dsts = spots_of(alloc, dsts, &to)?;
-    out.key("endpoint-cost-map")?;
-    out.begin_object()?;
-    write_groups(ask.multi, &srcs, &dsts, &found, out)?;
-    out.end_object()
+    out.push(b'{')?;
+    push_groups(ask.multi, &srcs, &dsts, &found, out)
 }
 
 /// The pairs of PIDs, source by source.

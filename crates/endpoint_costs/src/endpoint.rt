@@ -48,7 +48,7 @@ fn endpoints_of(
     ensures are { IfOk result (λ ends. ends.items ≡ endpoints_of table.now addrs.now) }
     ensures written { IfOk result (λ ends. AllByRecursion (IsWritten table.now) ends.items) }
 {
-    let mut ends = Vec::new(alloc);
+    let mut ends = Vec::with_capacity(alloc, addrs.len())?;
     for addr in addrs {
         if let Some(end) = endpoint_of(alloc, table, *addr)? {
             ends.push(end)?;

@@ -1,67 +1,73 @@
 //! The groups of addresses as JSON text.
-ghost use Rattle.std.specs.Prelude.{◌≡◌, OnOk, slice_get};
+ghost use Rattle.std.specs.Prelude.{◌≡◌, ◌++◌, false, IfOk, OnOk, slice_get};
 ghost use Rattle.std.specs.List.{filter_map};
+ghost use Rattle.serde_json.specs.Written.{members_text};
 ghost use Rattle.json_tree.specs.Tree.{members_in_order};
-ghost use Rattle.alto_maps.specs.Writing.{AddsMembers};
-ghost use Rattle.cost_filters.specs.Text.{AddsIfAny};
+ghost use Rattle.cost_filters.specs.Text.{PutsIfAny};
 ghost use Rattle.endpoint_costs.specs.Spots.{costs_object, group_at, group_data, has_pair, member_at};
 
 use crate::spots::Spot;
-use cost_filters::Found;
-use json::Writer;
+use cost_filters::{Found, push_comma, push_name};
 use std::alloc::AllocError;
 
-/// Writes the groups of the sources that have a pair.
-pub(crate) fn write_groups(
+/// Puts the groups of the sources that have a pair, with the brace behind them.
+pub(crate) fn push_groups(
     multi: bool,
     srcs: &[Spot],
     dsts: &[Spot],
     found: &[Found],
-    out: &mut Writer,
+    out: &mut Vec<u8>,
 ) -> Result<(), AllocError>
-    ensures { OnOk result (AddsMembers
-        (members_in_order (filter_map (group_at multi dsts.now found.now) srcs.now)) out.old out.new) }
+    ensures { OnOk result (out.new.items ≡ out.old.items ++ members_text false
+        (members_in_order (filter_map (group_at multi dsts.now found.now) srcs.now))) }
 {
+    let mut later = false;
     for src in srcs {
-        write_group(multi, src, dsts, found, out)?;
+        later = push_group(multi, src, dsts, found, later, out)?;
     }
+    out.push(b'}')?;
     Ok(())
 }
 
-/// Writes the group of a source with its name, if it has a pair.
-fn write_group(
+/// Puts the group of a source, if it has a pair. Tells whether a group stands before the next.
+fn push_group(
     multi: bool,
     src: &Spot,
     dsts: &[Spot],
     found: &[Found],
-    out: &mut Writer,
-) -> Result<(), AllocError>
-    ensures { OnOk result (AddsIfAny src.now.text
-        (group_data multi dsts.now (slice_get found.now src.now.at)) out.old out.new) }
+    later: bool,
+    out: &mut Vec<u8>,
+) -> Result<bool, AllocError>
+    ensures { IfOk result (λ after. PutsIfAny src.now.text
+        (group_data multi dsts.now (slice_get found.now src.now.at)) later out.old.items after out.new.items) }
 {
     match found.get(src.at) {
-        Some(costs) => write_costs(multi, src.text.as_str(), dsts, costs, out),
-        None => Ok(()),
+        Some(costs) => push_costs(multi, src.text.as_str(), dsts, costs, later, out),
+        None => Ok(later),
     }
 }
 
-/// Writes the pairs of a source with its name, if there are any.
-fn write_costs(
+/// Puts the pairs of a source as a member of this name, if there are any. Tells whether a member stands before the
+/// next.
+fn push_costs(
     multi: bool,
     name: &str,
     dsts: &[Spot],
     costs: &Found,
-    out: &mut Writer,
-) -> Result<(), AllocError>
-    ensures { OnOk result (AddsIfAny name.now (costs_object multi dsts.now costs.now) out.old out.new) }
+    later: bool,
+    out: &mut Vec<u8>,
+) -> Result<bool, AllocError>
+    ensures { IfOk result (λ after. PutsIfAny name.now (costs_object multi dsts.now costs.now)
+        later out.old.items after out.new.items) }
 {
     if !has_pair(costs, dsts) {
-        return Ok(());
+        return Ok(later);
     }
-    out.key(name)?;
-    out.begin_object()?;
-    write_members(multi, dsts, costs, out)?;
-    out.end_object()
+    push_comma(later, out)?;
+    push_name(name, out)?;
+    out.push(b'{')?;
+    push_members(multi, dsts, costs, out)?;
+    Ok(true)
 }
 
 /// Whether there is a pair with one of the destinations.
@@ -76,18 +82,20 @@ fn has_pair(costs: &Found, dsts: &[Spot]) -> bool
     false
 }
 
-/// Writes each of the destinations with which there is a pair.
-fn write_members(
+/// Puts each of the destinations with which there is a pair, with the brace behind them.
+fn push_members(
     multi: bool,
     dsts: &[Spot],
     costs: &Found,
-    out: &mut Writer,
+    out: &mut Vec<u8>,
 ) -> Result<(), AllocError>
-    ensures { OnOk result (AddsMembers
-        (members_in_order (filter_map (member_at multi costs.now) dsts.now)) out.old out.new) }
+    ensures { OnOk result (out.new.items ≡ out.old.items ++ members_text false
+        (members_in_order (filter_map (member_at multi costs.now) dsts.now))) }
 {
+    let mut later = false;
     for dst in dsts {
-        costs.write_pair(multi, dst.text.as_str(), dst.at, out)?;
+        later = costs.push_pair(multi, dst.text.as_str(), dst.at, later, out)?;
     }
+    out.push(b'}')?;
     Ok(())
 }

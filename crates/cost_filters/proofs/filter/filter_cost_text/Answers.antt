@@ -1,14 +1,33 @@
-use Rattle.std.proofs.Common.{arith}
-use Rattle.serde_json.proofs.Texts.{print-outline}
-use Rattle.cost_filters.specs.Filter.{filtered_costs}
+-- The groups come before the meta.
+use Rattle.std.proofs.Common.{◌≡◌, ◌∙◌, ◌++◌, ◌∷◌, [], ap}
+use Rattle.std.specs.Prelude.{codes}
+use Rattle.json.specs.Print.{print, quoted}
+use Rattle.json.specs.Token.{key}
+use Rattle.json.specs.Tree.{json_tokens}
+use Rattle.serde_json.specs.Written.{compact_text, outline}
+use Rattle.cost_filters.specs.Filter.{filtered_face, filtered_meta}
+use Rattle.cost_filters.proofs.PlainLemmas.{printed_member, section_opened}
+use Rattle.cost_filters.proofs.TextLemmas.{document_text}
 use Rattle.cost_filters.proofs.filter.filter_cost_text.Goals as goal
 
 pub returns : goal.returns
 returns g c =
-    let added = c.in_ok-write_map.ensures in
-    grind (
-      arith,
-      added.tokens,
-      added.before,
-      print-outline (filtered_costs (g.R.RowStore.rows c.args.rows.now) c.args.net.now c.args.ask.now),
-    )
+    let rows = g.R.RowStore.rows c.args.rows.now in
+    let meta = filtered_meta rows c.args.net.now c.args.ask.now in
+    let opened : c.extend_from_slice.new.self.items ≡ 123 ∷ (quoted (codes "cost-map") ++ 58 ∷ []) =
+    c.in_ok-extend_from_slice.ensures.items
+    ∙ (ap (λ bytes. bytes ++ 123 ∷ (34 ∷ (codes "cost-map" ++ 34 ∷ 58 ∷ []))) c.in_ok-text.ensures.items
+    ∙ section_opened) in
+    let before : c.write_meta.new.out.before ≡ c.push.new.self.items =
+    c.in_ok-write_meta.ensures.before ∙ c.new-out.ensures.before in
+    let tokens : c.write_meta.new.out.tokens ≡ key (codes "meta") ∷ json_tokens (outline meta) =
+    c.in_ok-write_meta.ensures.tokens
+    ∙ ap (λ ts. ts ++ key (codes "meta") ∷ json_tokens (outline meta)) c.new-out.ensures.tokens in
+    let told : c.into_inner-whole.result.items
+    ≡ c.push.new.self.items ++ (quoted (codes "meta") ++ 58 ∷ compact_text meta) =
+    c.into_inner-whole.ensures.items
+    ∙ ((λ i. before i ++ print (tokens i))
+    ∙ ap (λ text. c.push.new.self.items ++ text) (printed_member (codes "meta") meta)) in
+    document_text (filtered_face rows c.args.net.now c.args.ask.now) c.extend_from_slice.new.self.items
+    c.push_section.new.out.items c.push.new.self.items c.into_inner-whole.result.items c.push-2.new.self.items
+    opened c.in_ok-push_section.ensures c.in_ok-push.ensures.items told c.in_ok-push-2.ensures.items

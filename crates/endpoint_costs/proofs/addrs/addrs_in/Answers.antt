@@ -6,7 +6,7 @@ use Rattle.endpoint_costs.proofs.addrs.addrs_in.Goals as goal
 
 pub returns-in_err-addr_in-clause-err : goal.returns-in_err-addr_in-clause-err
 returns-in_err-addr_in-clause-err c =
-    let p = err_from_is_err_and c.from_residual.result c.from_residual.ensures.1 in
+    let p = err_from_is_err_and c.from_residual-in_err-addr_in.result c.from_residual-in_err-addr_in.ensures.1 in
     rw (p.1, p.2) (λ known.
     read_fault c.args.field.now c.args.items.now c.loop-item.item-index c.item-item.result c.loop-item.addrs.items
     c.in_err-addr_in.field-0.0 c.loop-item-test.true c.item-item.is

@@ -1,13 +1,15 @@
--- What is written is the text of the document.
-use Rattle.std.proofs.Common.{◌≡◌, ◌∙◌, ap, arith, subst}
-use Rattle.std.specs.Prelude.{[], ◌∷◌, codes}
-use Rattle.serde_json.specs.Data.{Data}
-use Rattle.serde_json.proofs.Texts.{print-outline}
+-- The groups come before the meta.
+use Rattle.std.proofs.Common.{◌≡◌, ◌∙◌, ◌++◌, ◌∷◌, [], ap}
+use Rattle.std.specs.Prelude.{codes}
+use Rattle.json.specs.Print.{print, quoted}
+use Rattle.json.specs.Token.{key}
+use Rattle.json.specs.Tree.{json_tokens}
+use Rattle.serde_json.specs.Written.{compact_text, outline}
+use Rattle.cost_filters.proofs.PlainLemmas.{printed_member}
 use Rattle.json_tree.specs.Document.{object_of}
-use Rattle.alto_maps.specs.Writing.{AddsValue}
 use Rattle.endpoint_costs.specs.Ask.{EndAskData}
-use Rattle.endpoint_costs.specs.Costs.{addrs_at, endpoint_costs, endpoint_meta, endpoints_at, endpoints_of}
-use Rattle.endpoint_costs.specs.Costs.{pairs_object}
+use Rattle.endpoint_costs.specs.Costs.{addrs_at, endpoint_meta, endpoints_at, endpoints_of, pairs_object}
+use Rattle.endpoint_costs.proofs.TextLemmas.{document_text, section_opened}
 use Rattle.endpoint_costs.proofs.costs.endpoint_cost_text.Goals as goal
 
 pub returns : goal.returns
@@ -22,11 +24,24 @@ returns g c =
     let dsts : c.in_ok-dsts.dsts.items ≡ endpoints_at rows net ask.dsts peer =
     c.in_ok-dsts.ensures.are ∙ (λ i. endpoints_of (c.requires.table i)
     (addrs_at (ap (λ (asked : EndAskData). asked.dsts) c.ask.view_is i) peer)) in
-    let whole : object_of ((codes "meta", endpoint_meta ask)
-    ∷ (codes "endpoint-cost-map", pairs_object rows net ask c.in_ok-srcs.srcs.items c.in_ok-dsts.dsts.items) ∷ [])
-    ≡ endpoint_costs rows net ask peer =
-    λ i. object_of ((codes "meta", endpoint_meta ask)
-    ∷ (codes "endpoint-cost-map", pairs_object rows net ask (srcs i) (dsts i)) ∷ []) in
-    let added = subst (λ (d : Data). AddsValue d c.new-out.result c.write_map.new.out) whole
-    c.in_ok-write_map.ensures in
-    grind (arith, added.tokens, added.before, print-outline (endpoint_costs rows net ask peer))
+    let meta = endpoint_meta ask in
+    let opened : c.extend_from_slice.new.self.items ≡ 123 ∷ (quoted (codes "endpoint-cost-map") ++ 58 ∷ []) =
+    c.in_ok-extend_from_slice.ensures.items
+    ∙ (ap (λ bytes. bytes ++ 123 ∷ (34 ∷ (codes "endpoint-cost-map" ++ 34 ∷ 58 ∷ []))) c.in_ok-text.ensures.items
+    ∙ section_opened) in
+    let before : c.write_meta.new.out.before ≡ c.push.new.self.items =
+    c.in_ok-write_meta.ensures.before ∙ c.new-out.ensures.before in
+    let tokens : c.write_meta.new.out.tokens ≡ key (codes "meta") ∷ json_tokens (outline meta) =
+    c.in_ok-write_meta.ensures.tokens
+    ∙ ap (λ ts. ts ++ key (codes "meta") ∷ json_tokens (outline meta)) c.new-out.ensures.tokens in
+    let told : c.into_inner-whole.result.items
+    ≡ c.push.new.self.items ++ (quoted (codes "meta") ++ 58 ∷ compact_text meta) =
+    c.into_inner-whole.ensures.items
+    ∙ ((λ i. before i ++ print (tokens i))
+    ∙ ap (λ text. c.push.new.self.items ++ text) (printed_member (codes "meta") meta)) in
+    document_text (pairs_object rows net ask c.in_ok-srcs.srcs.items c.in_ok-dsts.dsts.items) meta
+    c.extend_from_slice.new.self.items c.push_section.new.out.items c.push.new.self.items
+    c.into_inner-whole.result.items c.push-2.new.self.items
+    opened c.in_ok-push_section.ensures c.in_ok-push.ensures.items told c.in_ok-push-2.ensures.items
+    ∙ (λ i. compact_text (object_of ((codes "meta", meta)
+    ∷ (codes "endpoint-cost-map", pairs_object rows net ask (srcs i) (dsts i)) ∷ [])))

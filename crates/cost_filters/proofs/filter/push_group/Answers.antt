@@ -1,14 +1,14 @@
 -- Where no names are given, the PIDs that the source reaches.
 use Rattle.std.proofs.Common.{◌≡◌, ◌∙◌, ap, subst}
-use Rattle.std.proofs.lemmas.Result.{on_ok_weaker}
+use Rattle.std.proofs.lemmas.Result.{IfOk-weaker}
 use Rattle.std.specs.Prelude.{List, Option}
 use Rattle.serde_json.specs.Data.{Data}
 use Rattle.alto_maps.specs.Shape.{Name}
 use Rattle.cost_filters.specs.Columns.{columns_of, object_if_any, reached, valued}
 use Rattle.cost_filters.specs.Pairs.{pair_shown}
-use Rattle.cost_filters.specs.Text.{AddsIfAny}
+use Rattle.cost_filters.specs.Text.{PutsIfAny}
 use Rattle.cost_filters.proofs.TextLemmas.{set_object}
-use Rattle.cost_filters.proofs.filter.write_group.Goals as goal
+use Rattle.cost_filters.proofs.filter.push_group.Goals as goal
 
 pub returns-in_ok-dsts-in-None : goal.returns-in_ok-dsts-in-None
 returns-in_ok-dsts-in-None g c =
@@ -20,6 +20,7 @@ returns-in_ok-dsts-in-None g c =
     ap (λ (names : List Name). object_if_any (valued value names)) c.deref-in-None.ensures.value
     ∙ set_object value c.in_ok-dsts-in-None.dsts.items all c.in_ok-dsts-in-None.ensures in
     rw c.in-None.is
-    (on_ok_weaker c.write_among-in-None.result
-    (subst (λ (found : Option Data). AddsIfAny src found c.args.out.now c.write_among-in-None.new.out) same)
-    c.write_among-in-None.ensures)
+    (IfOk-weaker c.push_among-in-None.result _ _
+    (λ put is. subst (λ (found : Option Data). PutsIfAny src found c.args.later c.args.out.now.items put.0
+    c.push_among-in-None.new.out.items) same is)
+    c.push_among-in-None.ensures)

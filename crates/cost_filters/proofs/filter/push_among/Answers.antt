@@ -1,9 +1,9 @@
 use Rattle.std.proofs.Common.{◌≡◌, ◌∙◌, ap, subst}
 use Rattle.cost_filters.specs.Columns.{object_if_any, valued}
 use Rattle.cost_filters.specs.Pairs.{pair_costs, pair_shown}
-use Rattle.cost_filters.specs.Text.{AddsIfAny, found_object}
+use Rattle.cost_filters.specs.Text.{PutsIfAny, found_object}
 use Rattle.cost_filters.proofs.TextLemmas.{object_found}
-use Rattle.cost_filters.proofs.filter.write_among.Goals as goal
+use Rattle.cost_filters.proofs.filter.push_among.Goals as goal
 
 pub returns : goal.returns
 returns g c =
@@ -14,4 +14,5 @@ returns g c =
     let object : found_object multi dsts c.in_ok-found.found
     ≡ object_if_any (valued (pair_shown multi pairs src) dsts) =
     ap (found_object multi dsts) c.in_ok-found.ensures ∙ object_found (pair_costs pairs src) multi dsts c.requires in
-    subst (λ value. AddsIfAny src value c.args.out.now c.write_found.new.out) object c.in_ok-write_found.ensures
+    subst (λ value. PutsIfAny src value c.args.later c.args.out.now.items c.in_ok-after.after c.push_found.new.out.items)
+    object c.in_ok-after.ensures

@@ -1,23 +1,21 @@
 -- The groups of the addresses by what is found between their PIDs.
-use Rattle.std.proofs.Common.{◌≡◌, ◌∙◌, ap, map, subst, sym}
+use Rattle.std.proofs.Common.{◌≡◌, ◌∙◌, ◌++◌, ◌∷◌, [], ap, append_assoc, map, subst, sym}
 use Rattle.std.proofs.lemmas.Result.{on_ok_weaker}
-use Rattle.std.specs.Prelude.{List, codes}
+use Rattle.std.specs.Prelude.{List, false}
 use Rattle.std.specs.List.{filter_map}
 use Rattle.serde_json.specs.Data.{Data, object}
+use Rattle.serde_json.specs.Written.{compact_text, members_text}
 use Rattle.json_tree.specs.Tree.{members_in_order}
 use Rattle.alto_rows.specs.Prefixes.{prefixes_in}
 use Rattle.alto_maps.specs.Places.{set_of}
-use Rattle.alto_maps.specs.Writing.{AddsValue}
 use Rattle.alto_maps.proofs.SetLemmas.{Rise, rise-set_of}
-use Rattle.alto_maps.proofs.WritingLemmas.{whole_object}
-use Rattle.net_docs.proofs.WritingLemmas.{named_value}
 use Rattle.cost_filters.specs.Pairs.{pair_costs, pairs_of}
 use Rattle.endpoint_costs.specs.declared.endpoint.Endpoint.{Endpoint}
 use Rattle.endpoint_costs.specs.Ask.{EndAskData}
 use Rattle.endpoint_costs.specs.Costs.{pairs_object, pid_ask}
 use Rattle.endpoint_costs.specs.Spots.{entries_of, group_at, spot_in}
 use Rattle.endpoint_costs.proofs.SpotLemmas.{found_of, groups_are, pids}
-use Rattle.endpoint_costs.proofs.costs.write_section.Goals as goal
+use Rattle.endpoint_costs.proofs.costs.push_section.Goals as goal
 
 pub spots_of-requires : goal.spots_of-requires
 spots_of-requires g c = subst Rise (sym (c.deref-8.ensures.value ∙ c.in_ok-from.ensures))
@@ -63,12 +61,11 @@ returns g c =
     (group_at (multi i) ((c.deref-11.ensures.value ∙ second) i) ((c.deref-12.ensures.value ∙ found) i))
     ((c.deref-10.ensures.value ∙ first) i))))
     ∙ groups_are rows net ask (prefixes_in rows net) srcs dsts c.requires.srcs c.requires.dsts in
-    on_ok_weaker c.end_object.result
-    (λ closed. named_value (codes "endpoint-cost-map") (pairs_object rows net ask srcs dsts) c.args.out.now
-    c.key.new.self c.end_object.new.self c.in_ok-key.ensures.ok
-    c.key.ensures.room.0
-    (subst (λ (d : Data). AddsValue d c.key.new.self c.end_object.new.self) whole
-    (whole_object _ c.key.new.self c.begin_object.new.self c.write_groups.new.out c.end_object.new.self
-    c.in_ok-begin_object.ensures.ok
-    c.begin_object.ensures.room.0 c.in_ok-write_groups.ensures closed c.end_object.ensures.room.0)))
-    c.end_object.ensures.ok
+    let members = members_in_order
+    (filter_map (group_at c.ask.inside.multi c.deref-11.result.now c.deref-12.result.now) c.deref-10.result.now) in
+    on_ok_weaker c.push_groups.result
+    (λ put. put
+    ∙ (ap (λ bytes. bytes ++ members_text false members) c.in_ok-push.ensures.items
+    ∙ (append_assoc c.args.out.now.items (123 ∷ []) (members_text false members)
+    ∙ ap (λ (d : Data). c.args.out.now.items ++ compact_text d) whole)))
+    c.push_groups.ensures

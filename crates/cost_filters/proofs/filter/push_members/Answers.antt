@@ -4,9 +4,9 @@ use Rattle.std.specs.Prelude.{option_map, slice_get}
 use Rattle.alto_maps.specs.Shape.{Name}
 use Rattle.cost_filters.specs.Filter.{costs_data}
 use Rattle.cost_filters.specs.Pairs.{if_there}
-use Rattle.cost_filters.specs.Text.{AddsIfAny}
-use Rattle.cost_filters.proofs.TextLemmas.{any_before, shown_more}
-use Rattle.cost_filters.proofs.filter.write_members.Goals as goal
+use Rattle.cost_filters.specs.Text.{PutsIfAny}
+use Rattle.cost_filters.proofs.TextLemmas.{shown_more}
+use Rattle.cost_filters.proofs.filter.push_members.Goals as goal
 
 pub loop-at-preserved : goal.loop-at-preserved
 loop-at-preserved c =
@@ -16,11 +16,8 @@ loop-at-preserved c =
     let step : drop l.at dsts ≡ dst ∷ drop (l.at + 1) dsts =
     rw (drop_more dsts l.at dst c.loop-at-test.true, ← c.index-dsts-at.is) refl in
     let value = option_map (costs_data c.args.multi) (if_there (slice_get c.args.found.now l.at)) in
-    let added : AddsIfAny dst value l.out c.write_pair.new.out =
-    subst (λ (name : Name). AddsIfAny name value l.out c.write_pair.new.out) c.as_str.ensures
-    c.in_ok-write_pair.ensures in
-    record {
-      before = any_before dst _ l.out c.write_pair.new.out added ∙ l.invariant.before;
-      tokens = shown_more c.args.multi dst (drop l.at dsts) (drop (l.at + 1) dsts) c.args.found.now l.at l.out
-          c.write_pair.new.out step added ∙ l.invariant.tokens;
-    }
+    let put : PutsIfAny dst value l.later l.out.items c.in_ok-later.later c.push_pair.new.out.items =
+    subst (λ (name : Name). PutsIfAny name value l.later l.out.items c.in_ok-later.later c.push_pair.new.out.items)
+    c.as_str.ensures c.in_ok-later.ensures in
+    shown_more c.args.multi dst (drop l.at dsts) (drop (l.at + 1) dsts) c.args.found.now l.at l.later
+    c.in_ok-later.later l.out.items c.push_pair.new.out.items step put ∙ l.invariant
