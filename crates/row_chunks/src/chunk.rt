@@ -83,8 +83,9 @@ impl Block for Chunk {
     }
 
     fn divided(self, alloc: Global) -> Result<Vec<Chunk>, AllocError> {
-        let mut chunks = Vec::new(alloc);
-        for piece in pieces(alloc, self.rows, MOST_ROWS)? {
+        let pieces = pieces(alloc, self.rows, MOST_ROWS)?;
+        let mut chunks = Vec::with_capacity(alloc, pieces.len())?;
+        for piece in pieces {
             let mut rows = piece;
             rows.shrink_to_fit();
             chunks.push(Chunk { rows })?;

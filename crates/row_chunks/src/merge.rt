@@ -22,7 +22,7 @@ pub(crate) fn with_changed(
     ensures { IfOk result (λ all. all.items ≡ done.items ++ changed rows.now changes.now) }
 {
     let mut all = done;
-    all.reserve(rows.len())?;
+    all.reserve(rows.len().saturating_add(changes.len()))?;
     let mut rest = rows;
     for change in changes {
         let (head, past) = split_round(rest, &change.0);

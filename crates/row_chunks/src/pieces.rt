@@ -1,9 +1,9 @@
-ghost use Rattle.std.specs.Prelude.{◌≡◌, ◌≤◌, ◌<◌, ◌++◌, IfOk, length};
+ghost use Rattle.std.specs.Prelude.{◌≡◌, ◌≤◌, ◌<◌, ◌++◌, ◌∷◌, [], IfOk, length};
 ghost use Rattle.std.specs.List.{AllByRecursion, flat_map};
 
 use std::alloc::{AllocError, Global};
 
-/// The items in pieces of about one size, so many in each at most. No item is copied.
+/// The items in pieces of about one size, so many in each at most. Where they are one piece, none is moved.
 pub(crate) fn pieces<T: Drop>(
     alloc: Global,
     items: Vec<T>,
@@ -13,8 +13,29 @@ pub(crate) fn pieces<T: Drop>(
     ensures whole { IfOk result (λ all. flat_map (λ piece. piece.items) all.items ≡ items.items) }
     ensures small { IfOk result (λ all. AllByRecursion (λ piece. length piece.items ≤ most) all.items) }
 {
+    if items.len() <= most {
+        return alone(alloc, items);
+    }
     let size = piece_size(items.len(), most);
-    let mut all = Vec::new(alloc);
+    cut(alloc, items, size)
+}
+
+/// A piece alone.
+fn alone<T: Drop>(alloc: Global, piece: Vec<T>) -> Result<Vec<Vec<T>>, AllocError>
+    ensures { IfOk result (λ all. all.items ≡ piece ∷ []) }
+{
+    let mut all = Vec::with_capacity(alloc, 1)?;
+    all.push(piece)?;
+    Ok(all)
+}
+
+/// The items in pieces of this size, and a last one that may be smaller.
+fn cut<T: Drop>(alloc: Global, items: Vec<T>, size: usize) -> Result<Vec<Vec<T>>, AllocError>
+    requires { 1 ≤ size }
+    ensures whole { IfOk result (λ all. flat_map (λ piece. piece.items) all.items ≡ items.items) }
+    ensures small { IfOk result (λ all. AllByRecursion (λ piece. length piece.items ≤ size) all.items) }
+{
+    let mut all = Vec::with_capacity(alloc, items.len() / size + 1)?;
     let mut piece = Vec::with_capacity(alloc, size)?;
     for item in items {
         let (done, going) = with_full(alloc, all, piece, size)?;

@@ -1,6 +1,6 @@
 use Rattle.std.proofs.Common.{◌≡◌, ◌≤◌, ◌++◌, length}
 use Rattle.std.specs.List.{AllByRecursion, flat_map}
-use Rattle.row_chunks.proofs.pieces.pieces.Given as goal
+use Rattle.row_chunks.proofs.pieces.cut.Given as goal
 
 -- what is in pieces, in the piece at hand and left are all
 abbrev pub invariant-loop-item : goal.invariant-loop-item
