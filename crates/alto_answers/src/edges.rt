@@ -172,7 +172,7 @@ fn edge_reply<R: RowStore>(
     };
     let Some(keys) = graph.span(alloc, i, j)? else {
         let document = document_at(alloc, followed, resource, &**rows, j)?;
-        return ok_reply(alloc, media_type(resource), document);
+        return Ok(ok_reply(media_type(resource), document));
     };
     let Some(before) = graph.rows_at(i) else {
         unreachable!();
@@ -181,7 +181,7 @@ fn edge_reply<R: RowStore>(
         Some(text) => text.to_vec(alloc)?,
         None => patch_text(alloc, resource, form, &**before, &**rows, &keys)?,
     };
-    ok_reply(alloc, patch_type(form), Body::of_bytes(patch))
+    Ok(ok_reply(patch_type(form), Body::of_bytes(patch)))
 }
 
 /// The text of the document at a number, at which these are the rows. It is written where no text of it is kept.

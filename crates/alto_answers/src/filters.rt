@@ -69,7 +69,7 @@ pub(crate) fn costs<R: RowStore>(
 {
     let ask = read_cost_ask(alloc, &*front.rows, net, value)?;
     let map = filter_cost_text(alloc, &*front.rows, front.costs(), net, &ask)?;
-    Ok(ok_reply(alloc, COST_MAP, Body::of_bytes(map))?)
+    Ok(ok_reply(COST_MAP, Body::of_bytes(map)))
 }
 
 /// The costs between the addresses that an object asks for, or the object's first fault.
@@ -119,7 +119,7 @@ fn endpoint_reply<R: RowStore>(
         ask,
         client.peer,
     )?;
-    ok_reply(alloc, ENDPOINT_COST, Body::of_bytes(costs))
+    Ok(ok_reply(ENDPOINT_COST, Body::of_bytes(costs)))
 }
 
 /// The properties of the entities that an object asks for, or the object's first fault.
@@ -164,7 +164,7 @@ pub(crate) fn paths<R: RowStore>(
     let ask = read_path_ask(alloc, value)?;
     let (costs, properties) = path_vector(alloc, &*front.rows, net, &ask, front.n)?;
     let body = multipart(alloc, &costs, &properties)?;
-    Ok(ok_reply(alloc, PATH_VECTOR, Body::of_bytes(body))?)
+    Ok(ok_reply(PATH_VECTOR, Body::of_bytes(body)))
 }
 
 /// The range table of a declared network.

@@ -2,20 +2,19 @@
 ghost use Rattle.std.specs.Prelude.{◌≡◌, IfOk, OnOk, option_copied, option_map};
 ghost use Rattle.serde_json.specs.Written.{compact_text};
 ghost use Rattle.alto_maps.specs.Writing.{AddsValue};
-ghost use Rattle.alto_names.specs.Name.{named, is_net_byte};
 ghost use Rattle.alto_book.specs.Book.{Book, rows_of};
 ghost use Rattle.alto_versions.specs.Front.{StandsFor};
 ghost use Rattle.alto_replies.specs.Reply.{IsReply};
 ghost use Rattle.alto_answers.specs.Answers.{BringsEdits, HasBytes};
 ghost use Rattle.alto_answers.specs.Lookup as spec;
-ghost use Rattle.alto_answers.specs.Lookup.{LookupAnswer, ReadsAddr, pid_document, pid_value, prefixes_named};
+ghost use Rattle.alto_answers.specs.Lookup.{LookupAnswer, ReadsAddr, pid_document, pid_value};
 ghost use Rattle.alto_answers.specs.Target.{segment};
 
 use crate::outcome::Answer;
 use crate::target::segment;
 use alto_addr::Addr;
 use alto_http::Verb;
-use alto_names::{NameFault, NetName, PidName};
+use alto_names::PidName;
 use alto_replies::{Body, Reply, not_found, ok_reply, wrong_method};
 use alto_rows::{RowStore, read_typed_addr};
 use alto_versions::Front;
@@ -43,7 +42,7 @@ pub(crate) fn lookup<R: RowStore>(
         Verb::Get => {
             let net = segment(alloc, path, 2)?;
             let address = segment(alloc, path, 3)?;
-            let table = table_named(alloc, front, &net)?;
+            let table = front.table_named(&net);
             Ok(Answer::Reply(lookup_reply(alloc, table, read_addr(&address))?))
         }
         Verb::Post | Verb::Other => Ok(Answer::Reply(wrong_method(alloc, Verb::Get)?)),
@@ -55,22 +54,6 @@ fn read_addr(text: &[u8]) -> Option<Addr>
     ensures { ReadsAddr text.now result }
 {
     read_typed_addr(text)
-}
-
-/// The table of the network that a text names, if it is declared.
-fn table_named<'f, R: RowStore>(
-    alloc: Global,
-    front: &'f Front<R>,
-    text: &[u8],
-) -> Result<Option<&'f RangeTable>, AllocError>
-    ensures { IfOk result (λ found. (book : Book) → StandsFor front.now book
-        → prefixes_named (rows_of book) (named is_net_byte 24 text.now) ≡ option_map (λ table. table.now) found) }
-{
-    match NetName::read(alloc, text) {
-        Ok(net) => Ok(front.table(&net)),
-        Err(NameFault::Memory) => Err(AllocError),
-        Err(_) => Ok(None),
-    }
 }
 
 /// The reply with the PID that a table gives an address.
@@ -89,11 +72,8 @@ fn lookup_reply(
     let Some(addr) = addr else {
         return not_found(alloc, "resource");
     };
-    ok_reply(
-        alloc,
-        "application/json",
-        Body::of_bytes(pid_text(alloc, table.pid_of(&addr))?),
-    )
+    let body = pid_text(alloc, table.pid_of(&addr))?;
+    Ok(ok_reply("application/json", Body::of_bytes(body)))
 }
 
 /// The text that tells a PID, or that there is none.

@@ -65,7 +65,7 @@ pub(crate) fn newest_reply<R: RowStore>(
     ensures reply { IfOk result (λ reply. reply
         ≡ document_reply (media_type_of of.now) (document of.now front.now.rows)) }
 {
-    ok_reply(alloc, media_type(of), document_of(front, of)?)
+    Ok(ok_reply(media_type(of), document_of(front, of)?))
 }
 
 /// The text of the document of a declared resource, which the version keeps.

@@ -1,10 +1,12 @@
 ghost use Rattle.std.specs.Prelude.{◌≡◌, ◌==◌, IfOk};
+ghost use Rattle.std.specs.Cow.{cow_slice_items};
 ghost use Rattle.std.specs.List.{before_first};
 ghost use Rattle.alto_answers.specs.Target.{question_mark, from_slash, without_host, path_of, raw_segment, segment};
 
 use crate::bytes::place_of;
 use percent_encoding::percent_decode;
 use std::alloc::{AllocError, Global};
+use std::borrow::CowSlice;
 
 /// The path of a request target (RFC 9112, section 3.2): what stands before a question mark, without a host.
 pub(crate) fn path_of(target: &[u8]) -> &[u8]
@@ -14,14 +16,15 @@ pub(crate) fn path_of(target: &[u8]) -> &[u8]
 }
 
 /// The segment of a path at this place, with its escapes read (RFC 3986, section 2.1): what stands between its slashes,
-/// from 0, before the first. Empty where the path has no such place.
-pub(crate) fn segment(alloc: Global, path: &[u8], place: usize) -> Result<Vec<u8>, AllocError>
-    ensures { IfOk result (λ bytes. bytes.items ≡ segment path.now place) }
+/// from 0, before the first. Empty where the path has no such place. Takes memory only where there is an escape.
+pub(crate) fn segment(
+    alloc: Global,
+    path: &[u8],
+    place: usize,
+) -> Result<CowSlice<'_, u8>, AllocError>
+    ensures { IfOk result (λ bytes. cow_slice_items bytes ≡ segment path.now place) }
 {
-    let raw = raw_segment(path, place);
-    let mut bytes = Vec::with_capacity(alloc, raw.len())?;
-    percent_decode(raw).append_to(&mut bytes)?;
-    Ok(bytes)
+    percent_decode(raw_segment(path, place)).into_cow(alloc)
 }
 
 fn before_query(target: &[u8]) -> &[u8]

@@ -45,7 +45,7 @@ pub fn alto_error(
     members.put(alloc, "meta", error_meta(alloc, code, field, value)?)?;
     Ok(Reply {
         status: 400,
-        content_type: Name::from_str(alloc, ALTO_ERROR)?,
+        content_type: ALTO_ERROR,
         allow: None,
         body: Body::of_bytes(text(alloc, &members.into_tree())?),
     })

@@ -23,25 +23,29 @@ use std::alloc::{AllocError, Global};
 
 const JSON: &str = "application/json";
 
-/// The reply 200 with a body of this media type.
-pub fn ok_reply(alloc: Global, media_type: &str, body: Body) -> Result<Reply, AllocError>
-    ensures reply { IfOk result (λ reply. reply ≡ ok_reply media_type.now body) }
-    ensures has_bytes { IfOk result IsReply }
+/// The reply 200 with a body of this media type. Takes no memory.
+pub fn ok_reply(media_type: &'static str, body: Body) -> Reply
+    ensures reply { result ≡ ok_reply media_type.now body }
+    ensures has_bytes { IsReply result }
 {
-    Ok(Reply {
+    Reply {
         status: 200,
-        content_type: Name::from_str(alloc, media_type)?,
+        content_type: media_type,
         allow: None,
         body,
-    })
+    }
 }
 
 /// The reply 200 with a document of this media type.
-pub fn document_reply(alloc: Global, media_type: &str, document: &Tree) -> Result<Reply, AllocError>
+pub fn document_reply(
+    alloc: Global,
+    media_type: &'static str,
+    document: &Tree,
+) -> Result<Reply, AllocError>
     ensures reply { IfOk result (λ reply. reply ≡ document_reply media_type.now (data_of document.now)) }
     ensures has_bytes { IfOk result IsReply }
 {
-    ok_reply(alloc, media_type, Body::of_bytes(text(alloc, document)?))
+    Ok(ok_reply(media_type, Body::of_bytes(text(alloc, document)?)))
 }
 
 /// The reply that nothing is here, and why.
@@ -206,7 +210,7 @@ fn refusal(alloc: Global, status: u16, members: Members) -> Result<Reply, AllocE
 {
     Ok(Reply {
         status,
-        content_type: Name::from_str(alloc, JSON)?,
+        content_type: JSON,
         allow: None,
         body: Body::of_bytes(text(alloc, &members.into_tree())?),
     })

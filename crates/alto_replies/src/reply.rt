@@ -1,6 +1,5 @@
 use crate::body::Body;
 use alto_http::Verb;
-use json_tree::Name;
 use std::marker::Model;
 
 /// A reply, but for whether the connection closes after it.
@@ -9,7 +8,7 @@ pub struct Reply {
     /// The status code (RFC 9110, section 15).
     pub status: u16,
     /// The media type of the body.
-    pub content_type: Name,
+    pub content_type: &'static str,
     /// The method that the target allows, with status 405.
     pub allow: Option<Verb>,
     /// The body.
@@ -23,7 +22,7 @@ impl Model for Reply {
 
     ghost view = { λ reply. record {
       status = reply.status;
-      content_type = reply.content_type;
+      content_type = reply.content_type.now;
       allow = reply.allow;
       body = reply.body;
     } };

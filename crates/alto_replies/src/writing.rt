@@ -51,7 +51,7 @@ fn head(alloc: Global, reply: &Reply, close: bool) -> Result<String, AllocError>
     let length = reply.body.len()?;
     let mut head = String::with_capacity(alloc, length.min(LONGEST_COPIED) + HEAD_BYTES)?;
     write_status(&mut head, reply.status)?;
-    write_type(&mut head, reply.content_type.as_str())?;
+    write_type(&mut head, reply.content_type)?;
     write_length(&mut head, length)?;
     write_allow(&mut head, reply.allow)?;
     write_close(&mut head, close)?;

@@ -1,5 +1,6 @@
-ghost use Rattle.std.specs.Prelude.{◌≡◌, ◌<◌, ◌^◌, IfOk, option_map};
+ghost use Rattle.std.specs.Prelude.{◌≡◌, ◌<◌, ◌^◌, IfOk, IfSome, option_map};
 ghost use Rattle.std.specs.Arc.{arc_value};
+ghost use Rattle.alto_names.specs.Name.{IsNetName};
 ghost use Rattle.alto_rows.specs.Good.{AreGood};
 ghost use Rattle.alto_rows.specs.Rows.{after};
 ghost use Rattle.cost_tables.specs.Tables.{AreCostsOf};
@@ -89,7 +90,16 @@ impl<R: RowStore> Front<R> {
     pub fn table(&self, net: &NetName) -> Option<&RangeTable>
         ensures { option_map (λ table. table.now) result ≡ table_in self.now.tables net.now }
     {
-        let table = table_of(&self.tables, net)?;
+        self.table_named(net.as_bytes())
+    }
+
+    /// The range table of the network that a text names, where one is declared that it names. Linear in the number of
+    /// networks.
+    pub fn table_named(&self, text: &[u8]) -> Option<&RangeTable>
+        ensures table { option_map (λ table. table.now) result ≡ table_in self.now.tables text.now }
+        ensures name { IfSome result (λ _. IsNetName text.now) }
+    {
+        let table = table_of(&self.tables, text)?;
         Some(table)
     }
 

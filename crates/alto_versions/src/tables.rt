@@ -1,8 +1,10 @@
 //! The range tables of a version, made from those of the version before. All whose prefixes a batch left are shared.
-ghost use Rattle.std.specs.Prelude.{◌≡◌, IfOk, option_map};
+ghost use Rattle.std.specs.Prelude.{◌≡◌, IfOk, IfSome, IsTrue, option_map};
 ghost use Rattle.std.specs.Arc.{arc_value};
+ghost use Rattle.alto_names.specs.Name.{IsNetName};
 ghost use Rattle.alto_rows.specs.declared.span.Span.TheVariants as span;
 ghost use Rattle.alto_rows.specs.Good.{AreGood};
+ghost use Rattle.alto_rows.specs.Order.{same_name};
 ghost use Rattle.alto_rows.specs.Prefixes.{prefixes_in};
 ghost use Rattle.alto_rows.specs.Rows.{Rows};
 ghost use Rattle.alto_rows.specs.Rows as spec;
@@ -35,7 +37,7 @@ pub(crate) fn tables_after<R: RowStore>(
 {
     let mut after = Vec::new(alloc);
     for net in nets_of(alloc, rows)? {
-        let table = table_after(alloc, table_of(tables, &net), &net, rows, writes)?;
+        let table = table_after(alloc, table_of(tables, net.as_bytes()), &net, rows, writes)?;
         after.push((net, table))?;
     }
     Ok(after)
@@ -59,19 +61,28 @@ pub(crate) fn tables_of<R: RowStore>(
     Ok(tables)
 }
 
-/// The table of a network among these. Linear in their number.
+/// The table of the network that a text names, among these. Linear in their number.
 pub(crate) fn table_of<'a>(
     tables: &'a [(NetName, Arc<RangeTable>)],
-    net: &NetName,
+    text: &[u8],
 ) -> Option<&'a Arc<RangeTable>>
-    ensures { option_map (λ table. arc_value table.now) result ≡ table_in (entries tables.now) net.now }
+    ensures table { option_map (λ table. arc_value table.now) result ≡ table_in (entries tables.now) text.now }
+    ensures name { IfSome result (λ _. IsNetName text.now) }
 {
     for (name, table) in tables {
-        if net == name {
+        if names(text, name) {
             return Some(table);
         }
     }
     None
+}
+
+/// Whether a text is the name of a network.
+fn names(text: &[u8], net: &NetName) -> bool
+    ensures same { result ≡ same_name text.now net.now }
+    ensures name { IsTrue result → IsNetName text.now }
+{
+    text == net.as_bytes()
 }
 
 /// The table of a network after a batch with these writes, which led to these rows: the same where they have none of

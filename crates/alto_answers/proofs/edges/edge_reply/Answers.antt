@@ -1,6 +1,5 @@
 -- What an edge holds, by the graph.
 use Rattle.std.proofs.Common.{◌≡◌, Some, ap, sym, ◌∙◌}
-use Rattle.std.proofs.lemmas.Result.{IfOk-weaker}
 use Rattle.std.specs.Arc.{arc_value}
 use Rattle.std.specs.Cow.{cow_slice_items}
 use Rattle.serde_json.specs.Written.{compact_text}
@@ -39,16 +38,14 @@ document_at-requires-clause-number g c =
 
 pub returns-in_default-2-clause-reply : goal.returns-in_default-2-clause-reply
 returns-in_default-2-clause-reply g c =
-    IfOk-weaker c.ok_reply.result _ _
-    (λ reply made book is.
+    λ book is.
     let here = here_too _ _ _ _ c.args.i c.args.j c.requires.1 is c.requires.2 in
     let rows = rows_here _ _ _ c.args.i c.args.j _ is here
     (c.in-Some.ensures ∙ ap (λ (graph : GraphData). rows_at graph c.args.j) c.graph-graph.ensures) in
-    made ∙ rw (c.media_type.ensures, c.in_ok-document.ensures)
+    c.ok_reply.ensures.reply ∙ rw (c.media_type.ensures, c.in_ok-document.ensures)
     (whole_document _ _ _ c.args.form _ _ _ is here (ap g.R.RowStore.rows c.deref.ensures ∙ rows)
     ((rw c.in_default-2.is at c.in_ok-keys.ensures) ∙ ap (λ (graph : GraphData). span_of graph c.args.i c.args.j)
-    c.graph-graph.ensures)))
-    c.ok_reply.ensures.reply
+    c.graph-graph.ensures))
 
 pub unreachable-requires-in_default-rows_at : goal.unreachable-requires-in_default-rows_at
 unreachable-requires-in_default-rows_at g c =
@@ -99,14 +96,12 @@ returns-clause-reply g c =
           (rw (w.deref-in-None.ensures, w.deref-in-None-2.ensures, w.deref-in-None-3.ensures.value)
           at w.in_ok-patch-in-None.ensures)
     ] in
-    IfOk-weaker c.ok_reply-2.result _ _
-    (λ reply made book is.
+    λ book is.
     let here = here_too _ _ _ _ c.args.i c.args.j c.requires.1 is c.requires.2 in
     let low = low_of_span _ _ _ _ _ _ is span in
-    made
+    c.ok_reply-2.ensures.reply
     ∙ (ap (λ body. ok_reply c.patch_type.result.now body) c.of_bytes.ensures
     ∙ (ap (λ kind. ok_reply kind c.match-patch.patch.items) c.patch_type.ensures
     ∙ (patch_replied c.args.form c.args.resource.now earlier later keys c.match-patch.patch.items text
     ∙ patched _ _ _ c.args.form _ _ _ _ _ is here (rows_begin _ _ _ c.args.i c.args.j _ is here low from)
-    (rows_here _ _ _ c.args.i c.args.j _ is here to) span))))
-    c.ok_reply-2.ensures.reply
+    (rows_here _ _ _ c.args.i c.args.j _ is here to) span)))

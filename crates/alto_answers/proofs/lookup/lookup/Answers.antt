@@ -3,7 +3,7 @@ use Rattle.alto_names.specs.Name.{named, is_net_byte}
 use Rattle.alto_book.specs.Book.{rows_of}
 use Rattle.alto_answers.specs.Lookup.{ReadsAddr, prefixes_named}
 use Rattle.alto_answers.specs.Target.{segment}
-use Rattle.alto_answers.proofs.LookupLemmas.{looked_up}
+use Rattle.alto_answers.proofs.LookupLemmas.{looked_up, table_of_text}
 use Rattle.alto_answers.proofs.lookup.lookup.Goals as goal
 
 pub returns-in_ok-lookup_reply-in-Get-clause-answer : goal.returns-in_ok-lookup_reply-in-Get-clause-answer
@@ -12,7 +12,8 @@ returns-in_ok-lookup_reply-in-Get-clause-answer g c = λ book stands.
     (looked_up (rows_of book) (segment c.args.path.now 2) (segment c.args.path.now 3) _ c.read_addr.result _
     (sym (ap (λ n. prefixes_named (rows_of book) (named is_net_byte 24 n)) (c.deref.ensures.value
     ∙ c.in_ok-net-in-Get.ensures))
-    ∙ c.in_ok-table-in-Get.ensures book stands)
+    ∙ table_of_text (λ table. table.now) c.table_named-table.result c.args.front.now book _ stands
+    c.table_named-table.ensures.table c.table_named-table.ensures.name)
     (subst (λ t. ReadsAddr t c.read_addr.result) (c.deref-in-Get.ensures.value ∙ c.in_ok-address-in-Get.ensures)
     c.read_addr.ensures)
     c.in_ok-lookup_reply-in-Get.ensures.reply)
