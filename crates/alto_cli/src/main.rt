@@ -17,7 +17,7 @@ use alto_serve::Clock;
 use console::Console;
 use std::alloc::{AllocError, Global};
 use std::env::{self, Args};
-use std::io;
+use std::io::{self, BufWriter};
 use std::process::ExitCode;
 use std::sync::Wait;
 use std::thread::Threads;
@@ -25,9 +25,21 @@ use system_clock::SystemClock;
 use telling_doors::TellingDoors;
 use words::words_of;
 
+/// How many bytes of standard output may be gathered before they are put out.
+const MOST_GATHERED: usize = 65536;
+
+/// The status where memory runs out before there is a console or a word.
+const OUT_OF_MEMORY: u8 = 1;
+
+/// The status where standard output couldn't be written.
+const WRITE_FAULT: u8 = 5;
+
 fn main(rt: HostRuntime) -> ExitCode {
+    let Ok(output) = BufWriter::with_capacity(rt.alloc(), MOST_GATHERED, io::writer(&rt)) else {
+        return ExitCode::from(OUT_OF_MEMORY);
+    };
     let mut vault = FileVault::new(&rt);
-    let mut console = Console::new(rt.reader(), io::writer(&rt));
+    let mut console = Console::new(rt.reader(), output);
     let mut doors = TellingDoors::new(&rt);
     let bell = ThreadBell::new(&rt);
     let clock = SystemClock::new(&rt);
@@ -41,7 +53,10 @@ fn main(rt: HostRuntime) -> ExitCode {
         &bell,
         &clock,
     );
-    ExitCode::from(status)
+    match console.flush() {
+        Ok(()) => ExitCode::from(status),
+        Err(_) => ExitCode::from(WRITE_FAULT),
+    }
 }
 
 /// Runs the program on its arguments, as `run` does on its words, and gives the status: 1 where memory ran out before
@@ -65,6 +80,6 @@ fn run_on<
 ) -> u8 {
     match words_of(alloc, arguments) {
         Ok(words) => run(rt, alloc, &words, vault, console, doors, bell, clock),
-        Err(AllocError) => 1,
+        Err(AllocError) => OUT_OF_MEMORY,
     }
 }
