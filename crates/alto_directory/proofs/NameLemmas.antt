@@ -1,11 +1,11 @@
 -- Names of properties, gathered by domain one after another.
-use Rattle.std.proofs.Common.{◌≡◌, refl, ◌∙◌}
+use Rattle.std.proofs.Common.{◌≡◌, refl}
 use Rattle.std.specs.Prelude.{List, [], ◌∷◌}
 use Rattle.std.specs.List.{filter_map}
 use Rattle.alto_maps.specs.Places.{set_of}
 use Rattle.alto_maps.specs.Shape.{Name}
 use Rattle.alto_directory.specs.Names.{with_name, with_properties}
-use Rattle.alto_directory.specs.Network.{Property, PropertyNames, name_in, names_of}
+use Rattle.alto_directory.specs.Network.{Property, name_in, names_of}
 use Rattle.alto_directory.specs.declared.domain.Domain.{Domain}
 use Rattle.alto_directory.specs.declared.domain.Domain.TheVariants as domain
 use Rattle.alto_directory.proofs.SetLemmas.{with_names}

@@ -1,5 +1,5 @@
 -- The cost types of a directory and their names (RFC 7285, sections 9.2.2 and 10.7).
-use Rattle.std.specs.Prelude.{List, [], ◌∷◌, ◌++◌, map, codes}
+use Rattle.std.specs.Prelude.{List, [], ◌∷◌, ◌++◌, codes}
 use Rattle.std.specs.List.{flat_map}
 use Rattle.serde_json.specs.Data.{Data, string}
 use Rattle.json_tree.specs.Document.{object_of}

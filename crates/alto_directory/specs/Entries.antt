@@ -1,5 +1,5 @@
 -- The entries of a directory: what the server has of each network, and the service of updates.
-use Rattle.std.specs.Prelude.{List, [], ◌∷◌, ◌++◌, true, Option, Some, None, map, codes}
+use Rattle.std.specs.Prelude.{List, [], ◌∷◌, ◌++◌, true, Some, None, map, codes}
 use Rattle.std.specs.List.{flat_map}
 use Rattle.serde_json.specs.Data.{Data, boolean, number, string, unsigned}
 use Rattle.json_tree.specs.Document.{object_of}

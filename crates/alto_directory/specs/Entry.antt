@@ -1,5 +1,5 @@
 -- An entry of a directory (RFC 7285, section 9.2.2) and its JSON.
-use Rattle.std.specs.Prelude.{List, [], ◌∷◌, ◌++◌, Option, Some, option_map, map, codes}
+use Rattle.std.specs.Prelude.{List, ◌∷◌, ◌++◌, Option, option_map, map, codes}
 use Rattle.serde_json.specs.Data.{Data, string}
 use Rattle.json_tree.specs.Document.{array_of, object_of}
 use Rattle.json_tree.specs.Tree.{data_of}

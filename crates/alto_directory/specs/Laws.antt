@@ -1,5 +1,5 @@
 -- What directories say, written out: the statements of the laws.
-use Rattle.std.specs.Prelude.{◌≡◌, List, [], ◌∷◌, ◌++◌, codes}
+use Rattle.std.specs.Prelude.{◌≡◌, [], ◌++◌, codes}
 use Rattle.serde_json.specs.Written.{compact_text}
 use Rattle.alto_rows.specs.Rows.{Rows}
 use Rattle.alto_rows.specs.Versions.{nets_of}

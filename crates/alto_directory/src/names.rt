@@ -1,11 +1,12 @@
 //! Names of properties, gathered by the domains of their entities.
 ghost use Rattle.std.specs.Prelude.{◌≡◌, [], IfOk, OnOk};
+ghost use Rattle.std.specs.List.{filter_map};
 ghost use Rattle.alto_directory.specs.Names.{with_property};
 ghost use Rattle.alto_directory.specs.Network as spec;
 
 use crate::domain::{Domain, domain_of};
 use alto_names::{NetName, PropName};
-use alto_rows::{Key, RowStore, Span, rows_in};
+use alto_rows::{Key, RowStore, Span, Within, rows_in};
 use json_tree::Name;
 use std::alloc::{AllocError, Global};
 use std::collections::BTreeSet;
@@ -98,8 +99,22 @@ pub(crate) fn property_names<R: RowStore>(
 ) -> Result<PropertyNames, AllocError>
     ensures { IfOk result (λ names. names ≡ spec.property_names (R.rows rows.now) net.now) }
 {
+    let mut properties = rows_in(rows, Span::Props(net.clone()?));
+    let names = names_walked(alloc, &mut properties);
+    // dropped by a call: that is far cheaper to prove than a drop in place at each exit of the loop
+    drop(properties);
+    names
+}
+
+/// The names of the properties that the rows of a walk give.
+fn names_walked<R: RowStore>(
+    alloc: Global,
+    properties: &mut Within<R>,
+) -> Result<PropertyNames, AllocError>
+    ensures { IfOk result (λ names. names ≡ spec.names_of (filter_map spec.property_in properties.old)) }
+{
     let mut names = NameSets::new(alloc);
-    for row in rows_in(rows, Span::Props(net.clone()?)) {
+    while let Some(row) = properties.next() {
         if let Key::Prop(_, entity, name) = &row.0 {
             names.insert(domain_of(entity), name.clone()?)?;
         }

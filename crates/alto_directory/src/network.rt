@@ -1,9 +1,11 @@
-ghost use Rattle.std.specs.Prelude.{◌≡◌, IfOk};
+ghost use Rattle.std.specs.Prelude.{◌≡◌, IfOk, map};
+ghost use Rattle.std.specs.List.{filter_map};
+ghost use Rattle.alto_rows.specs.Versions.{net_declared};
 ghost use Rattle.alto_directory.specs.Network as spec;
 
 use crate::names::{PropertyNames, property_names};
 use alto_names::{Metric, NetName};
-use alto_rows::{Key, RowStore, Span, rows_in};
+use alto_rows::{Key, RowStore, Span, Within, rows_in};
 use std::alloc::{AllocError, Global};
 use std::marker::Model;
 
@@ -28,8 +30,24 @@ impl Model for Network {
 pub(crate) fn networks_of<R: RowStore>(alloc: Global, rows: &R) -> Result<Vec<Network>, AllocError>
     ensures { IfOk result (λ nets. nets.items ≡ spec.networks_of (R.rows rows.now)) }
 {
+    let mut nets = rows_in(rows, Span::Nets);
+    let networks = networks_walked(alloc, rows, &mut nets);
+    // dropped by a call: that is far cheaper to prove than a drop in place at each exit of the loop
+    drop(nets);
+    networks
+}
+
+/// The networks that the rows of a walk declare.
+fn networks_walked<R: RowStore>(
+    alloc: Global,
+    rows: &R,
+    nets: &mut Within<R>,
+) -> Result<Vec<Network>, AllocError>
+    ensures { IfOk result (λ networks. networks.items
+        ≡ map (spec.network_of (R.rows rows.now)) (filter_map net_declared nets.old)) }
+{
     let mut networks = Vec::new(alloc);
-    for row in rows_in(rows, Span::Nets) {
+    while let Some(row) = nets.next() {
         if let Key::Net(net) = &row.0 {
             networks.push(network_of(alloc, rows, net)?)?;
         }
@@ -56,8 +74,21 @@ fn metrics_of<R: RowStore>(
 ) -> Result<Vec<Metric>, AllocError>
     ensures { IfOk result (λ metrics. metrics.items ≡ spec.metrics_of (R.rows rows.now) net.now) }
 {
+    let mut declared = rows_in(rows, Span::Metrics(net.clone()?));
+    let metrics = metrics_walked(alloc, &mut declared);
+    drop(declared);
+    metrics
+}
+
+/// The metrics that the rows of a walk declare.
+fn metrics_walked<R: RowStore>(
+    alloc: Global,
+    declared: &mut Within<R>,
+) -> Result<Vec<Metric>, AllocError>
+    ensures { IfOk result (λ metrics. metrics.items ≡ filter_map spec.metric_declared declared.old) }
+{
     let mut metrics = Vec::new(alloc);
-    for row in rows_in(rows, Span::Metrics(net.clone()?)) {
+    while let Some(row) = declared.next() {
         if let Key::Metric(_, metric) = &row.0 {
             metrics.push(metric.clone()?)?;
         }

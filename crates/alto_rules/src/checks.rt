@@ -1,14 +1,15 @@
-ghost use Rattle.std.specs.Prelude.{◌≡◌, ◌∷◌, ◌&&◌, [], ℕ, IfOk, List};
+ghost use Rattle.std.specs.Prelude.{◌≡◌, ◌∷◌, ◌&&◌, [], ℕ, IfOk, List, nat_le};
 ghost use Rattle.std.specs.List.{list_any};
 ghost use Rattle.alto_rows.specs.declared.key.Key.TheVariants as keys;
 ghost use Rattle.alto_rows.specs.Rows.{has_row};
+ghost use Rattle.alto_rows.specs.Span.{count_in};
 ghost use Rattle.alto_edits.specs.declared.rule.Rule.TheVariants as rule;
 ghost use Rattle.alto_edits.specs.Rules.{broken_rule, entity_pids, first_broken, lacks};
 ghost use Rattle.alto_edits.specs.Writes.{is_free};
 ghost use Rattle.alto_rules.specs.Draft.{drafted_rows};
 ghost use Rattle.alto_rules.specs.Origin.{LastCostIsDeclared};
-ghost use Rattle.alto_rules.specs.Parts.{edit_net, edit_pids, next_cost_checks, own_checks};
-ghost use Rattle.alto_rules.specs.Sizes.{is_full};
+ghost use Rattle.alto_rules.specs.Parts.{edit_key, edit_net, edit_pids, next_cost_checks, own_checks};
+ghost use Rattle.alto_rules.specs.Sizes.{is_full, span_of};
 
 use crate::counted::{Counted, counted_of};
 use crate::draft::Draft;
@@ -74,7 +75,10 @@ impl<'a, R: RowStore> Draft<'a, R> {
             return Ok(None);
         }
         let key = cost_key(net, metric, source, destination)?;
-        Ok(self.lacking(&key, Rule::G12))
+        let rule = self.lacking(&key, Rule::G12);
+        // a call: dropped in place the key takes long to prove, variant by variant
+        drop(key);
+        Ok(rule)
     }
 
     /// Whether a metric has as many costs as it may have.
@@ -83,7 +87,16 @@ impl<'a, R: RowStore> Draft<'a, R> {
             → is ≡ is_full (drafted_rows self.now) (keys.Cost net.now metric.now src dst) 262144) }
     {
         let costs = Counted::Costs(net.clone()?, metric.clone()?);
-        Ok(self.count(&costs)? >= MOST_COSTS)
+        let has_most = self.has_most(&costs, MOST_COSTS);
+        drop(costs);
+        has_most
+    }
+
+    /// Whether there are as many rows as may be of what is counted.
+    fn has_most(&self, counted: &Counted, most: usize) -> Result<bool, AllocError>
+        ensures { IfOk result (λ is. is ≡ nat_le most (count_in (drafted_rows self.now) (span_of counted.now))) }
+    {
+        Ok(self.count(counted)? >= most)
     }
 
     /// The first rule that the edit breaks, by a search for each thing that it names.
@@ -143,17 +156,27 @@ impl<'a, R: RowStore> Draft<'a, R> {
         ensures { IfOk result (λ broken. broken ≡ first_broken (own_checks (drafted_rows self.now) edit.now)) }
     {
         let key = edit_key(edit)?;
+        let rule = self.key_rule(edit, &key);
+        drop(key);
+        rule
+    }
+
+    /// The same of an edit whose key is at hand.
+    fn key_rule(&self, edit: &Edit, key: &Key) -> Result<Option<Rule>, AllocError>
+        requires { key.now ≡ edit_key edit.now }
+        ensures { IfOk result (λ broken. broken ≡ first_broken (own_checks (drafted_rows self.now) edit.now)) }
+    {
         match edit {
-            Edit::NetAdd { .. } => self.added(&key, Rule::G1, MOST_NETS, Rule::G2),
-            Edit::PidAdd { .. } => self.added(&key, Rule::G4, MOST_PIDS, Rule::G5),
-            Edit::PrefixPut { net, prefix, .. } => self.prefix_rule(&key, net, prefix),
-            Edit::PrefixDel { .. } => Ok(self.lacking(&key, Rule::G8)),
-            Edit::MetricAdd { .. } => self.added(&key, Rule::G9, MOST_METRICS, Rule::G10),
-            Edit::MetricDrop { .. } => Ok(self.lacking(&key, Rule::G11)),
-            Edit::CostPut { net, metric, .. } => self.cost_rule(&key, net, metric),
-            Edit::CostDel { net, metric, .. } => self.cost_gone_rule(&key, net, metric),
-            Edit::PropDel { .. } | Edit::PathDel { .. } => Ok(self.lacking(&key, Rule::G13)),
-            Edit::AneAdd { .. } => Ok(self.known(&key, Rule::G14)),
+            Edit::NetAdd { .. } => self.added(key, Rule::G1, MOST_NETS, Rule::G2),
+            Edit::PidAdd { .. } => self.added(key, Rule::G4, MOST_PIDS, Rule::G5),
+            Edit::PrefixPut { net, prefix, .. } => self.prefix_rule(key, net, prefix),
+            Edit::PrefixDel { .. } => Ok(self.lacking(key, Rule::G8)),
+            Edit::MetricAdd { .. } => self.added(key, Rule::G9, MOST_METRICS, Rule::G10),
+            Edit::MetricDrop { .. } => Ok(self.lacking(key, Rule::G11)),
+            Edit::CostPut { net, metric, .. } => self.cost_rule(key, net, metric),
+            Edit::CostDel { net, metric, .. } => self.cost_gone_rule(key, net, metric),
+            Edit::PropDel { .. } | Edit::PathDel { .. } => Ok(self.lacking(key, Rule::G13)),
+            Edit::AneAdd { .. } => Ok(self.known(key, Rule::G14)),
             Edit::AneSet { net, ane, .. } => self.ane_rule(net, ane),
             Edit::PathPut { net, anes, .. } => self.anes_rule(net, anes),
             Edit::NetDrop { .. } | Edit::PidDrop { .. } | Edit::PropPut { .. } => Ok(None),
@@ -165,7 +188,9 @@ impl<'a, R: RowStore> Draft<'a, R> {
         ensures { IfOk result (λ has. has ≡ has_row (drafted_rows self.now) (keys.Net net.now)) }
     {
         let key = net_key(net)?;
-        Ok(self.has(&key))
+        let has = self.has(&key);
+        drop(key);
+        Ok(has)
     }
 
     /// Whether a PID isn't declared.
@@ -191,7 +216,9 @@ impl<'a, R: RowStore> Draft<'a, R> {
         ensures { IfOk result (λ is. is ≡ lacks (drafted_rows self.now) (keys.Metric net.now metric.now)) }
     {
         let key = metric_key(net, metric)?;
-        Ok(!self.has(&key))
+        let has = self.has(&key);
+        drop(key);
+        Ok(!has)
     }
 
     /// Whether an abstract network element isn't declared.
@@ -199,7 +226,9 @@ impl<'a, R: RowStore> Draft<'a, R> {
         ensures { IfOk result (λ is. is ≡ lacks (drafted_rows self.now) (keys.Ane net.now ane.now)) }
     {
         let key = ane_key(net, ane)?;
-        Ok(!self.has(&key))
+        let has = self.has(&key);
+        drop(key);
+        Ok(!has)
     }
 
     /// The rule that is broken where a key has a row.
@@ -221,7 +250,11 @@ impl<'a, R: RowStore> Draft<'a, R> {
         ensures { IfOk result (λ is. is ≡ is_full (drafted_rows self.now) key.now most) }
     {
         match counted_of(key)? {
-            Some(counted) => Ok(self.count(&counted)? >= most),
+            Some(counted) => {
+                let is_full = self.has_most(&counted, most);
+                drop(counted);
+                is_full
+            }
             None => Ok(false),
         }
     }

@@ -13,7 +13,7 @@ ghost use Rattle.alto_rules.specs.Sizes.{span_of};
 use crate::counted::Counted;
 use crate::kept::{Kept, has_row};
 use crate::keys::{pid_key, prefix_key};
-use crate::owners::{owner_before, place_of};
+use crate::owners::owner_before;
 use crate::parts::edit_value;
 use crate::pids::first_pid;
 use alto_addr::Prefix;
@@ -73,6 +73,8 @@ impl<'a, R: RowStore> Draft<'a, R> {
             None if first_pid(self.kept.pids, net, pid).is_some() => true,
             written => has_row(self.rows, &key, written),
         };
+        // a call: dropped in place the key takes long to prove, variant by variant
+        drop(key);
         Ok(has)
     }
 
@@ -123,8 +125,8 @@ impl<'a, R: RowStore> Draft<'a, R> {
         requires { has_one_write edit.now ≡ true }
         ensures { IfOk result (λ draft. draft ≡ wrote self.entry (writes_of (drafted_rows self.entry) edit.now)) }
     {
-        let key = self.shared_key(edit)?;
         let value = edit_value(edit)?;
+        let key = self.shared_key(edit)?;
         self.write(key, value)
     }
 
@@ -203,8 +205,7 @@ impl<'a, R: RowStore> Draft<'a, R> {
         ensures { IfOk result (λ owner. HasOwner (drafted_rows self.now) net.now prefix.now owner) }
     {
         let owners = &self.kept.owners;
-        let place = place_of(net, prefix)?;
-        match owners.find(&place)? {
+        match owners.find_in(net, prefix)? {
             Some(owner) => Ok(owner),
             None if owners.knows(net) => Ok(None),
             None => owner_before(*self.writes.allocator(), self.rows, net, prefix),

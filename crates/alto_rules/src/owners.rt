@@ -47,6 +47,21 @@ impl Owners {
         }
     }
 
+    /// The same of a prefix of a network.
+    pub fn find_in(
+        &self,
+        net: &NetName,
+        prefix: &Prefix,
+    ) -> Result<Option<Option<PidName>>, AllocError>
+        ensures { IfOk result (λ owner. owner ≡ get place_cmp self.now.of (place_of net.now prefix.now)) }
+    {
+        let place = place_of(net, prefix)?;
+        let owner = self.find(&place);
+        // a call: dropped in place at each exit of the caller the prefix takes long to prove
+        drop(place);
+        owner
+    }
+
     /// Whether the prefixes of a network were all gone over.
     pub fn knows(&self, net: &NetName) -> bool
         ensures { result ≡ contains name_cmp self.now.known net.now }

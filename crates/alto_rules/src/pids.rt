@@ -39,7 +39,10 @@ fn searched<'a, R: RowStore>(
     ensures { IfOk result (λ pids. HasAll (R.rows rows.now) pids.now) }
 {
     let key = pid_key(net, pid)?;
-    Ok(if_first(rows.run_from(&key), net, pid))
+    let pids = rows.run_from(&key);
+    // a call: dropped in place the key takes long to prove, variant by variant
+    drop(key);
+    Ok(if_first(pids, net, pid))
 }
 
 /// These rows, where the first is a PID's; else none.

@@ -36,8 +36,28 @@ impl Sizes {
     {
         match self.counts.get(counted) {
             Some(count) => Ok(*count),
-            None => Ok(rows.count_in(&span_of(counted)?)),
+            None => {
+                let span = span_of(counted)?;
+                let count = rows.count_in(&span);
+                // a call: dropped in place the span takes long to prove, variant by variant
+                drop(span);
+                Ok(count)
+            }
         }
+    }
+
+    /// The same once a row of them is there or not that was there or not.
+    fn count_after<R: RowStore>(
+        &self,
+        rows: &R,
+        counted: &Counted,
+        had: bool,
+        has: bool,
+    ) -> Result<usize, AllocError>
+        ensures { IfOk result (λ count. count
+            ≡ recounted had has (count_from (R.rows rows.now) self.now.counts counted.now)) }
+    {
+        recounted(had, has, self.count(rows, counted)?)
     }
 
     /// Counts anew after a write of a key that had a row or not, and then has one or not.
@@ -54,10 +74,13 @@ impl Sizes {
     {
         self.total = recounted(had, has, self.total)?;
         match counted_of(key)? {
-            Some(counted) => {
-                let count = recounted(had, has, self.count(rows, &counted)?)?;
-                set_count(&mut self.counts, counted, count)
-            }
+            Some(counted) => match self.count_after(rows, &counted, had, has) {
+                Ok(count) => set_count(&mut self.counts, counted, count),
+                Err(fault) => {
+                    drop(counted);
+                    Err(fault)
+                }
+            },
             None => Ok(()),
         }
     }

@@ -1,4 +1,4 @@
-ghost use Rattle.std.specs.Prelude.{◌≡◌, ◌+◌, ◌^◌, ◌<◌, ◌∷◌, [], IfOk, true, option_copied};
+ghost use Rattle.std.specs.Prelude.{◌≡◌, ◌+◌, ◌++◌, ◌^◌, ◌<◌, ◌∷◌, [], IfOk, true, filter, map, option_copied};
 ghost use Rattle.std.specs.BTreeSet.{Updates, contains};
 ghost use Rattle.std.specs.List.{filter_map, flat_map};
 ghost use Rattle.alto_rows.specs.declared.key.Key.TheVariants as key;
@@ -45,11 +45,29 @@ impl<'a, R: RowStore> Draft<'a, R> {
     {
         let mut versions = Vec::new(*self.writes.allocator());
         for of in self.touched()? {
-            if self.declares(&of)? {
-                versions.push(self.next_version(of))?;
-            }
+            versions = self.with_version(versions, of)?;
         }
         Ok(versions)
+    }
+
+    /// The version rows with that of a resource, where it is declared.
+    fn with_version(&self, versions: Vec<Write>, of: Resource) -> Result<Vec<Write>, AllocError>
+        requires { HaveNextVersions self.now.rows }
+        ensures { IfOk result (λ all. all.items ≡ versions.items
+            ++ map (next_version self.now.rows) (filter (is_declared (drafted_rows self.now)) (of ∷ []))) }
+    {
+        match self.declares(&of) {
+            Ok(true) => with_write(versions, self.next_version(of)),
+            Ok(false) => {
+                // a call: dropped in place the resource takes long to prove, variant by variant
+                drop(of);
+                Ok(versions)
+            }
+            Err(fault) => {
+                drop(of);
+                Err(fault)
+            }
+        }
     }
 
     /// Whether the resource is declared after the writes.
@@ -57,7 +75,9 @@ impl<'a, R: RowStore> Draft<'a, R> {
         ensures { IfOk result (λ declares. declares ≡ is_declared (drafted_rows self.now) of.now) }
     {
         let key = declaring_key(of)?;
-        Ok(self.has(&key))
+        let declares = self.has(&key);
+        drop(key);
+        Ok(declares)
     }
 
     /// The resources that the writes touch, and perhaps some that aren't declared.
@@ -75,6 +95,15 @@ impl<'a, R: RowStore> Draft<'a, R> {
     {
         next_version(self.rows, of)
     }
+}
+
+/// The writes with one more.
+fn with_write(writes: Vec<Write>, write: Write) -> Result<Vec<Write>, AllocError>
+    ensures { IfOk result (λ all. all.items ≡ writes.items ++ write ∷ []) }
+{
+    let mut all = writes;
+    all.push(write)?;
+    Ok(all)
 }
 
 /// The resources with what depends on them.
@@ -140,9 +169,22 @@ fn with_costs<R: RowStore>(
 fn metrics_in<R: RowStore>(alloc: Global, rows: &R, net: &NetName) -> Result<Vec<Key>, AllocError>
     ensures { IfOk result (λ all. all.items ≡ named_in (R.rows rows.now) (span.Metrics net.now) (key.Net net.now)) }
 {
-    let metrics = Span::Metrics(net.clone()?);
     let declared = net_key(net)?;
-    named_in(alloc, rows, metrics, &declared)
+    let metrics = metrics_named(alloc, rows, net, &declared);
+    drop(declared);
+    metrics
+}
+
+/// The keys of the metrics of a network that name what a key declares.
+fn metrics_named<R: RowStore>(
+    alloc: Global,
+    rows: &R,
+    net: &NetName,
+    declared: &Key,
+) -> Result<Vec<Key>, AllocError>
+    ensures { IfOk result (λ all. all.items ≡ named_in (R.rows rows.now) (span.Metrics net.now) declared.now) }
+{
+    named_in(alloc, rows, Span::Metrics(net.clone()?), declared)
 }
 
 /// The resources with the cost maps of keys that declare them.

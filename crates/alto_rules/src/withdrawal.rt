@@ -1,6 +1,7 @@
-ghost use Rattle.std.specs.Prelude.{◌≡◌, ◌&&◌, ◌++◌, ◌∷◌, [], IfOk, true, filter, map};
+ghost use Rattle.std.specs.Prelude.{◌≡◌, ◌&&◌, ◌++◌, ◌∷◌, [], IfOk, OnOk, true, filter, map};
 ghost use Rattle.std.specs.List.{list_any};
 ghost use Rattle.std.specs.BTreeSet.{IsOrdered, Updates, contains};
+ghost use Rattle.std.specs.Map.{keys_of};
 ghost use Rattle.alto_rows.specs.declared.key.Key.{Key};
 ghost use Rattle.alto_rows.specs.declared.key.Key.TheVariants as keys;
 ghost use Rattle.alto_rows.specs.Order.{key_cmp};
@@ -18,7 +19,7 @@ use crate::parts::edit_key;
 use crate::written::copied;
 use alto_edits::Edit;
 use alto_names::{Metric, NetName, PidName};
-use alto_rows::{Entity, Key, RowStore, Span, Write, rows_in};
+use alto_rows::{Entity, Key, RowStore, Span, Within, Write, rows_in};
 use std::alloc::{AllocError, Global};
 use std::collections::BTreeSet;
 
@@ -149,8 +150,23 @@ pub fn named_in<R: RowStore>(
 ) -> Result<Vec<Key>, AllocError>
     ensures { IfOk result (λ keys. keys.items ≡ named_in (R.rows rows.now) span declared.now) }
 {
+    let mut walk = rows_in(rows, span);
+    let keys = named_left(alloc, &mut walk, declared);
+    // a call: dropped in place at each exit of a loop the walk takes long to prove
+    drop(walk);
+    keys
+}
+
+/// The keys of the rows of a walk that name what a key declares.
+fn named_left<R: RowStore>(
+    alloc: Global,
+    walk: &mut Within<R>,
+    declared: &Key,
+) -> Result<Vec<Key>, AllocError>
+    ensures { IfOk result (λ keys. keys.items ≡ filter (names_key declared.now) (keys_of walk.old)) }
+{
     let mut keys = Vec::new(alloc);
-    for row in rows_in(rows, span) {
+    while let Some(row) = walk.next() {
         keys = with_name(keys, declared, &row.0)?;
     }
     Ok(keys)
@@ -253,20 +269,28 @@ fn spans_of(alloc: Global, declared: &Key) -> Result<Vec<Span>, AllocError>
     }
 }
 
+/// Adds a span at the end.
+fn add_span(spans: &mut Vec<Span>, span: Span) -> Result<(), AllocError>
+    ensures { OnOk result (spans.new.items ≡ spans.old.items ++ span ∷ []) }
+{
+    spans.push(span)?;
+    Ok(())
+}
+
 /// The spans of a network.
 fn spans_of_net(alloc: Global, net: &NetName) -> Result<Vec<Span>, AllocError>
     ensures { IfOk result (λ spans. spans.items ≡ spans_of (keys.Net net.now)) }
 {
     let mut spans = Vec::new(alloc);
-    spans.push(Span::Nets)?;
-    spans.push(Span::Pids(net.clone()?))?;
-    spans.push(Span::Prefixes(net.clone()?))?;
-    spans.push(Span::Metrics(net.clone()?))?;
-    spans.push(Span::Costs(net.clone()?))?;
-    spans.push(Span::Props(net.clone()?))?;
-    spans.push(Span::Anes(net.clone()?))?;
-    spans.push(Span::AneProps(net.clone()?))?;
-    spans.push(Span::Paths(net.clone()?))?;
+    add_span(&mut spans, Span::Nets)?;
+    add_span(&mut spans, Span::Pids(net.clone()?))?;
+    add_span(&mut spans, Span::Prefixes(net.clone()?))?;
+    add_span(&mut spans, Span::Metrics(net.clone()?))?;
+    add_span(&mut spans, Span::Costs(net.clone()?))?;
+    add_span(&mut spans, Span::Props(net.clone()?))?;
+    add_span(&mut spans, Span::Anes(net.clone()?))?;
+    add_span(&mut spans, Span::AneProps(net.clone()?))?;
+    add_span(&mut spans, Span::Paths(net.clone()?))?;
     Ok(spans)
 }
 
@@ -275,11 +299,14 @@ fn spans_of_pid(alloc: Global, net: &NetName, pid: &PidName) -> Result<Vec<Span>
     ensures { IfOk result (λ spans. spans.items ≡ spans_of (keys.Pid net.now pid.now)) }
 {
     let mut spans = Vec::new(alloc);
-    spans.push(Span::Pids(net.clone()?))?;
-    spans.push(Span::PrefixesOf(net.clone()?, pid.clone()?))?;
-    spans.push(Span::Costs(net.clone()?))?;
-    spans.push(Span::PropsOf(net.clone()?, Entity::Pid(pid.clone()?)))?;
-    spans.push(Span::Paths(net.clone()?))?;
+    add_span(&mut spans, Span::Pids(net.clone()?))?;
+    add_span(&mut spans, Span::PrefixesOf(net.clone()?, pid.clone()?))?;
+    add_span(&mut spans, Span::Costs(net.clone()?))?;
+    add_span(
+        &mut spans,
+        Span::PropsOf(net.clone()?, Entity::Pid(pid.clone()?)),
+    )?;
+    add_span(&mut spans, Span::Paths(net.clone()?))?;
     Ok(spans)
 }
 
@@ -288,7 +315,7 @@ fn spans_of_metric(alloc: Global, net: &NetName, metric: &Metric) -> Result<Vec<
     ensures { IfOk result (λ spans. spans.items ≡ spans_of (keys.Metric net.now metric.now)) }
 {
     let mut spans = Vec::new(alloc);
-    spans.push(Span::Metrics(net.clone()?))?;
-    spans.push(Span::CostsIn(net.clone()?, metric.clone()?))?;
+    add_span(&mut spans, Span::Metrics(net.clone()?))?;
+    add_span(&mut spans, Span::CostsIn(net.clone()?, metric.clone()?))?;
     Ok(spans)
 }

@@ -6,6 +6,7 @@ ghost use Rattle.std.specs.Ordering.{is_lt};
 ghost use Rattle.alto_rows.specs.Good.{AreGood};
 ghost use Rattle.alto_rows.specs.Order.{resource_cmp};
 ghost use Rattle.alto_rows.specs.Versions.{is_declared, version_of, window_of};
+ghost use Rattle.alto_rows.specs.declared.key.Key.TheVariants as keys;
 ghost use Rattle.alto_rows.specs.declared.resource.Resource.{Resource as TheResource};
 ghost use Rattle.alto_rows.specs.Accepted.{Accepted};
 ghost use Rattle.alto_book.specs.Acceptance.{with_batch};
@@ -179,7 +180,20 @@ fn version<R: RowStore>(rows: &R, of: Resource) -> u64
     ensures number { result ≡ version_of (R.rows rows.now) of }
     ensures room { result < 2 ^ 63 }
 {
-    match rows.get(&Key::Seq(of)) {
+    let key = Key::Seq(of);
+    let version = version_at(rows, &key);
+    // a call: dropped in place the key takes long to prove, variant by variant
+    drop(key);
+    version
+}
+
+/// The version that the row of a key has, 0 where it has none. One search.
+fn version_at<R: RowStore>(rows: &R, key: &Key) -> u64
+    requires { AreGood (R.rows rows.now) }
+    ensures number { (of : TheResource) → key.now ≡ keys.Seq of → result ≡ version_of (R.rows rows.now) of }
+    ensures room { (of : TheResource) → key.now ≡ keys.Seq of → result < 2 ^ 63 }
+{
+    match rows.get(key) {
         Some(Value::Num(n)) => *n,
         _ => 0,
     }

@@ -7,7 +7,7 @@ ghost use Rattle.batch_check.specs.Named as told;
 ghost use Rattle.alto_rows.specs.Rows.{value_of};
 
 use crate::lookup::has_row;
-use alto_names::{AneName, NetName, PidName};
+use alto_names::{AneName, Metric, NetName, PidName};
 use alto_rows::{Entity, Key, RowStore, Value, Write};
 use std::alloc::{AllocError, Global};
 
@@ -19,21 +19,17 @@ pub fn needs(alloc: Global, key: &Key, value: &Value) -> Result<Vec<Key>, AllocE
         Key::Pid(net, _) | Key::Metric(net, _) | Key::Ane(net, _) => only_net(alloc, net),
         Key::Prefix(net, pid, _) => net_and_pid(alloc, net, pid),
         Key::Cost(net, metric, source, destination) => {
-            let mut keys = only_net(alloc, net)?;
-            keys.push(Key::Metric(net.clone()?, metric.clone()?))?;
-            keys.push(Key::Pid(net.clone()?, source.clone()?))?;
-            keys.push(Key::Pid(net.clone()?, destination.clone()?))?;
-            Ok(keys)
+            with_pids(
+                net_and_metric(alloc, net, metric)?,
+                net,
+                source,
+                destination,
+            )
         }
         Key::Prop(net, entity, _) => entity_needs(alloc, net, entity),
-        Key::AneProp(net, ane, _) => {
-            let mut keys = only_net(alloc, net)?;
-            keys.push(Key::Ane(net.clone()?, ane.clone()?))?;
-            Ok(keys)
-        }
+        Key::AneProp(net, ane, _) => net_and_ane(alloc, net, ane),
         Key::Path(net, source, destination) => {
-            let mut keys = net_and_pid(alloc, net, source)?;
-            keys.push(Key::Pid(net.clone()?, destination.clone()?))?;
+            let keys = with_pid(net_and_pid(alloc, net, source)?, net, destination)?;
             with_value_needs(keys, net, value)
         }
         Key::Epoch | Key::Window | Key::Net(_) | Key::Seq(_) => Ok(Vec::new(alloc)),
@@ -53,9 +49,47 @@ fn only_net(alloc: Global, net: &NetName) -> Result<Vec<Key>, AllocError>
 fn net_and_pid(alloc: Global, net: &NetName, pid: &PidName) -> Result<Vec<Key>, AllocError>
     ensures { IfOk result (λ keys. keys.items ≡ key.Net net.now ∷ key.Pid net.now pid.now ∷ []) }
 {
+    with_pid(only_net(alloc, net)?, net, pid)
+}
+
+/// The keys that declare a network and a metric of it.
+fn net_and_metric(alloc: Global, net: &NetName, metric: &Metric) -> Result<Vec<Key>, AllocError>
+    ensures { IfOk result (λ keys. keys.items ≡ key.Net net.now ∷ key.Metric net.now metric.now ∷ []) }
+{
     let mut keys = only_net(alloc, net)?;
-    keys.push(Key::Pid(net.clone()?, pid.clone()?))?;
+    keys.push(Key::Metric(net.clone()?, metric.clone()?))?;
     Ok(keys)
+}
+
+/// The keys that declare a network and an abstract network element of it.
+fn net_and_ane(alloc: Global, net: &NetName, ane: &AneName) -> Result<Vec<Key>, AllocError>
+    ensures { IfOk result (λ keys. keys.items ≡ key.Net net.now ∷ key.Ane net.now ane.now ∷ []) }
+{
+    let mut keys = only_net(alloc, net)?;
+    keys.push(Key::Ane(net.clone()?, ane.clone()?))?;
+    Ok(keys)
+}
+
+/// Keys, and that which declares a PID.
+fn with_pid(keys: Vec<Key>, net: &NetName, pid: &PidName) -> Result<Vec<Key>, AllocError>
+    ensures { IfOk result (λ all. all.items ≡ keys.items ++ (key.Pid net.now pid.now ∷ [])) }
+{
+    let mut all = keys;
+    all.push(Key::Pid(net.clone()?, pid.clone()?))?;
+    Ok(all)
+}
+
+/// Keys, and those that declare two PIDs.
+fn with_pids(
+    keys: Vec<Key>,
+    net: &NetName,
+    source: &PidName,
+    destination: &PidName,
+) -> Result<Vec<Key>, AllocError>
+    ensures { IfOk result (λ all. all.items
+        ≡ (keys.items ++ (key.Pid net.now source.now ∷ [])) ++ (key.Pid net.now destination.now ∷ [])) }
+{
+    with_pid(with_pid(keys, net, source)?, net, destination)
 }
 
 /// The keys that declare a network and what an entity of it names.

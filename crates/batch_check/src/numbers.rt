@@ -1,12 +1,14 @@
 ghost use Rattle.std.specs.Prelude.{◌≡◌, Decides, IfOk};
+ghost use Rattle.std.specs.List.{list_all};
 ghost use Rattle.alto_rows.specs.Good.{AreGood};
+ghost use Rattle.alto_rows.specs.Span.{count_in};
 ghost use Rattle.alto_edits.specs.Limits.{AreWithin};
 ghost use Rattle.batch_check.specs.Numbers as told;
 ghost use Rattle.batch_check.specs.Numbers.{IsRoomFor};
 
 use alto_edits::Past;
 use alto_names::NetName;
-use alto_rows::{Key, RowStore, Span, Value, Write, rows_in};
+use alto_rows::{Key, RowStore, Span, Value, Within, Write, rows_in};
 use std::alloc::AllocError;
 
 /// The most rows.
@@ -69,7 +71,17 @@ pub fn are_within<R: RowStore>(rows: &R) -> Result<bool, AllocError>
 fn nets_fit<R: RowStore>(rows: &R) -> Result<bool, AllocError>
     ensures { IfOk result (λ fit. fit ≡ told.nets_fit (R.rows rows.now)) }
 {
-    for row in rows_in(rows, Span::Nets) {
+    let mut nets = rows_in(rows, Span::Nets);
+    let fit = all_nets_fit(rows, &mut nets);
+    drop(nets);
+    fit
+}
+
+/// Whether each network that the rows of a walk declare does. The walk is only borrowed: it is let go in one place.
+fn all_nets_fit<R: RowStore>(rows: &R, nets: &mut Within<R>) -> Result<bool, AllocError>
+    ensures { IfOk result (λ fit. fit ≡ list_all (told.row_fits (R.rows rows.now)) nets.old) }
+{
+    while let Some(row) = nets.next() {
         if !row_fits(rows, row)? {
             return Ok(false);
         }
@@ -91,9 +103,9 @@ fn row_fits<R: RowStore>(rows: &R, row: &(Key, Value)) -> Result<bool, AllocErro
 fn net_fits<R: RowStore>(rows: &R, net: &NetName) -> Result<bool, AllocError>
     ensures { IfOk result (λ fits. fits ≡ told.net_fits (R.rows rows.now) net.now) }
 {
-    let pids = rows.count_in(&Span::Pids(net.clone()?));
-    let prefixes = rows.count_in(&Span::Prefixes(net.clone()?));
-    let metrics = rows.count_in(&Span::Metrics(net.clone()?));
+    let pids = count_of(rows, Span::Pids(net.clone()?));
+    let prefixes = count_of(rows, Span::Prefixes(net.clone()?));
+    let metrics = count_of(rows, Span::Metrics(net.clone()?));
     let costs_fit = metrics_fit(rows, net)?;
     Ok(pids <= MOST_PIDS && prefixes <= MOST_PREFIXES && metrics <= MOST_METRICS && costs_fit)
 }
@@ -102,7 +114,17 @@ fn net_fits<R: RowStore>(rows: &R, net: &NetName) -> Result<bool, AllocError>
 fn metrics_fit<R: RowStore>(rows: &R, net: &NetName) -> Result<bool, AllocError>
     ensures { IfOk result (λ fit. fit ≡ told.metrics_fit (R.rows rows.now) net.now) }
 {
-    for row in rows_in(rows, Span::Metrics(net.clone()?)) {
+    let mut metrics = rows_in(rows, Span::Metrics(net.clone()?));
+    let fit = all_metrics_fit(rows, &mut metrics);
+    drop(metrics);
+    fit
+}
+
+/// Whether each metric that the rows of a walk declare has.
+fn all_metrics_fit<R: RowStore>(rows: &R, metrics: &mut Within<R>) -> Result<bool, AllocError>
+    ensures { IfOk result (λ fit. fit ≡ list_all (told.metric_fits (R.rows rows.now)) metrics.old) }
+{
+    while let Some(row) = metrics.next() {
         if !metric_fits(rows, row)? {
             return Ok(false);
         }
@@ -116,9 +138,18 @@ fn metric_fits<R: RowStore>(rows: &R, row: &(Key, Value)) -> Result<bool, AllocE
 {
     match &row.0 {
         Key::Metric(net, metric) => {
-            let costs = rows.count_in(&Span::CostsIn(net.clone()?, metric.clone()?));
+            let costs = count_of(rows, Span::CostsIn(net.clone()?, metric.clone()?));
             Ok(costs <= MOST_COSTS)
         }
         _ => Ok(true),
     }
+}
+
+/// How many keys of a span have rows. Two searches. The span is let go here, and in no caller.
+fn count_of<R: RowStore>(rows: &R, span: Span) -> usize
+    ensures { result ≡ count_in (R.rows rows.now) span }
+{
+    let count = rows.count_in(&span);
+    drop(span);
+    count
 }

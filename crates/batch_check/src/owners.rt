@@ -11,7 +11,7 @@ ghost use Rattle.batch_check.specs.Owners.{AreGiven, HasNets, HaveOnePid, place_
 use crate::lookup::has_row;
 use crate::place::Place;
 use alto_names::{NetName, PidName};
-use alto_rows::{Key, PackedPrefix, RowStore, Span, Write, rows_in};
+use alto_rows::{Key, PackedPrefix, RowStore, Span, Within, Write, rows_in};
 use std::alloc::{AllocError, Global};
 use std::collections::{BTreeMap, BTreeSet};
 
@@ -169,7 +169,21 @@ fn is_shared_in<R: RowStore>(
 ) -> Result<bool, AllocError>
     ensures { IfOk result (λ is. is ≡ told.is_shared_in (R.rows next.now) owners.now net.now) }
 {
-    for row in rows_in(next, Span::Prefixes(net.clone()?)) {
+    let mut prefixes = rows_in(next, Span::Prefixes(net.clone()?));
+    let shared = some_elsewhere(owners, &mut prefixes);
+    // A call, since what is dropped in place takes a proof for each kind of key.
+    drop(prefixes);
+    shared
+}
+
+/// Whether a row of a walk gives its prefix to another PID than the one that is kept of it.
+fn some_elsewhere<R: RowStore>(
+    owners: &BTreeMap<Place, PidName>,
+    prefixes: &mut Within<R>,
+) -> Result<bool, AllocError>
+    ensures { IfOk result (λ some. some ≡ list_any (λ row. told.is_elsewhere owners.now row.0) prefixes.old) }
+{
+    while let Some(row) = prefixes.next() {
         if is_elsewhere(owners, &row.0)? {
             return Ok(true);
         }

@@ -1,6 +1,6 @@
 ghost use Rattle.std.specs.Prelude.{◌≡◌, ◌||◌, IfOk, true};
 ghost use Rattle.std.specs.BTreeSet.{Updates, contains};
-ghost use Rattle.std.specs.List.{flat_map};
+ghost use Rattle.std.specs.List.{filter_map, flat_map};
 ghost use Rattle.alto_rows.specs.declared.resource.Resource as resource;
 ghost use Rattle.alto_rows.specs.Order.{resource_cmp};
 ghost use Rattle.alto_rows.specs.Touches.{is_resource, part_of};
@@ -8,7 +8,7 @@ ghost use Rattle.alto_rows.specs.Versions.{cost_declared};
 ghost use Rattle.batch_check.specs.Touched.{HasJoined, costs_of, dependents, is_among, is_part};
 
 use alto_names::NetName;
-use alto_rows::{Key, Resource, RowStore, Span, Value, Write, rows_in};
+use alto_rows::{Key, Resource, RowStore, Span, Value, Within, Write, rows_in};
 use std::alloc::{AllocError, Global};
 use std::collections::BTreeSet;
 
@@ -111,8 +111,22 @@ fn with_costs<R: RowStore>(
 ) -> Result<BTreeSet<Resource>, AllocError>
     ensures { IfOk result (λ all. HasJoined touched (costs_of (R.rows rows.now) net.now) all) }
 {
+    let mut metrics = rows_in(rows, Span::Metrics(net.clone()?));
+    let all = with_all_costs(touched, &mut metrics);
+    // A call, since what is dropped in place takes a proof for each kind of key.
+    drop(metrics);
+    all
+}
+
+/// The resources with the cost maps that the rows of a walk declare.
+fn with_all_costs<R: RowStore>(
+    touched: BTreeSet<Resource>,
+    metrics: &mut Within<R>,
+) -> Result<BTreeSet<Resource>, AllocError>
+    ensures { IfOk result (λ all. HasJoined touched (filter_map cost_declared metrics.old) all) }
+{
     let mut all = touched;
-    for row in rows_in(rows, Span::Metrics(net.clone()?)) {
+    while let Some(row) = metrics.next() {
         if let Some(cost) = cost_declared(row)? {
             all = with_resource(all, cost)?;
         }

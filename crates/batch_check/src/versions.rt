@@ -70,7 +70,10 @@ fn declares<R: RowStore>(rows: &R, of: &Resource) -> Result<bool, AllocError>
     ensures { IfOk result (λ declares. declares ≡ is_declared (R.rows rows.now) of.now) }
 {
     let key = declaring_key(of)?;
-    Ok(has_row(rows, &key))
+    let declares = has_row(rows, &key);
+    // A call, since what is dropped in place takes a proof for each kind of key.
+    drop(key);
+    Ok(declares)
 }
 
 /// The key that declares a resource.

@@ -1,3 +1,4 @@
+pub mod KindLemmas
 pub mod KeyLemmas
 pub mod ValueLemmas
 pub mod WriteLemmas

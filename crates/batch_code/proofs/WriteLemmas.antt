@@ -32,48 +32,53 @@ use Rattle.batch_code.specs.declared.kinds.KeyKind.TheVariants as kind
 use Rattle.batch_code.specs.declared.kinds.ResourceKind.TheVariants as of_kind
 use Rattle.batch_code.specs.declared.kinds.Shape.{Shape}
 use Rattle.batch_code.specs.declared.kinds.Shape.TheVariants as shape
+use Rattle.batch_code.proofs.KindLemmas.{kind_once, stored_kind}
 use Rattle.batch_code.proofs.KeyLemmas.{are_texts, fields_grammar, is_entity, is_text}
 use Rattle.batch_code.proofs.ValueLemmas.{values_grammar}
 
 -- ---- kinds
 
-pub kind_once : (a b : KeyKind) → key_number a ≡ key_number b → a ≡ b
-kind_once kind.Net kind.Net e = refl
-kind_once kind.Pid kind.Pid e = refl
-kind_once kind.Prefix kind.Prefix e = refl
-kind_once kind.Metric kind.Metric e = refl
-kind_once kind.Cost kind.Cost e = refl
-kind_once kind.Prop kind.Prop e = refl
-kind_once kind.Ane kind.Ane e = refl
-kind_once kind.AneProp kind.AneProp e = refl
-kind_once kind.Path kind.Path e = refl
-kind_once kind.Seq kind.Seq e = refl
-kind_once _ _ e = absurd cc
+-- the kind of a key that is stored
+abbrev kind_at : (of : Key) → 3 ≤ kind_of of → (at : KeyKind) × (kind_of of ≡ key_number at)
+kind_at (key.Net net) le = (kind.Net, refl)
+kind_at (key.Pid net pid) le = (kind.Pid, refl)
+kind_at (key.Prefix net pid block) le = (kind.Prefix, refl)
+kind_at (key.Metric net metric) le = (kind.Metric, refl)
+kind_at (key.Cost net metric source destination) le = (kind.Cost, refl)
+kind_at (key.Prop net entity property) le = (kind.Prop, refl)
+kind_at (key.Ane net ane) le = (kind.Ane, refl)
+kind_at (key.AneProp net ane property) le = (kind.AneProp, refl)
+kind_at (key.Path net source destination) le = (kind.Path, refl)
+kind_at (key.Seq of) le = (kind.Seq, refl)
+kind_at key.Epoch le = absurd (omega (arith, le))
+kind_at key.Window le = absurd (omega (arith, le))
+
+stored_at : (at : KeyKind) (of : Key) → kind_of of ≡ key_number at → 3 ≤ kind_of of
+stored_at at of e = subst (λ n. 3 ≤ n) (sym e) (stored_kind at)
+
+-- a kind with the number of a stored key's is its kind
+same_kind : (at : KeyKind) (of : Key) (e : kind_of of ≡ key_number at) → (kind_at of (stored_at at of e)).0 ≡ at
+same_kind at of e =
+    let own = kind_at of (stored_at at of e) in
+    kind_once own.0 at (sym own.1 ∙ e)
+
+shape_there : (of : Key) (le : 3 ≤ kind_of of) → shape_of (kind_at of le).0 ≡ shape_at of
+shape_there (key.Net net) le = refl
+shape_there (key.Pid net pid) le = refl
+shape_there (key.Prefix net pid block) le = refl
+shape_there (key.Metric net metric) le = refl
+shape_there (key.Cost net metric source destination) le = refl
+shape_there (key.Prop net entity property) le = refl
+shape_there (key.Ane net ane) le = refl
+shape_there (key.AneProp net ane property) le = refl
+shape_there (key.Path net source destination) le = refl
+shape_there (key.Seq of) le = refl
+shape_there key.Epoch le = absurd (omega (arith, le))
+shape_there key.Window le = absurd (omega (arith, le))
 
 same_shape : (at : KeyKind) (of : Key) → kind_of of ≡ key_number at → shape_of at ≡ shape_at of
-same_shape kind.Net (key.Net net) e = refl
-same_shape kind.Pid (key.Pid net pid) e = refl
-same_shape kind.Prefix (key.Prefix net pid block) e = refl
-same_shape kind.Metric (key.Metric net metric) e = refl
-same_shape kind.Cost (key.Cost net metric source destination) e = refl
-same_shape kind.Prop (key.Prop net entity property) e = refl
-same_shape kind.Ane (key.Ane net ane) e = refl
-same_shape kind.AneProp (key.AneProp net ane property) e = refl
-same_shape kind.Path (key.Path net source destination) e = refl
-same_shape kind.Seq (key.Seq of) e = refl
-same_shape _ _ e = absurd cc
-
-stored_kind : (at : KeyKind) → 3 ≤ key_number at
-stored_kind kind.Net = omega arith
-stored_kind kind.Pid = omega arith
-stored_kind kind.Prefix = omega arith
-stored_kind kind.Metric = omega arith
-stored_kind kind.Cost = omega arith
-stored_kind kind.Prop = omega arith
-stored_kind kind.Ane = omega arith
-stored_kind kind.AneProp = omega arith
-stored_kind kind.Path = omega arith
-stored_kind kind.Seq = omega arith
+same_shape at of e =
+    subst (λ (k : KeyKind). shape_of k ≡ shape_at of) (same_kind at of e) (shape_there of (stored_at at of e))
 
 -- a key takes the values of its shape
 pub takes_same : (at : Key) (v : Option Value) → (IsValueOf (shape_at at) v → 3 ≤ kind_of at → TakesChange at v)
@@ -156,35 +161,40 @@ resource_text (resource.Cost n m) is = record {
 }
 resource_text (resource.Prop n) is = record { tag = of_kind.Prop; back = name n; split = refl; second = net n is }
 
-pub fields_text : (at : KeyKind) (of : Key) → kind_of of ≡ key_number at → IsKey of → Fields at (fields of)
-fields_text kind.Net (key.Net n) e is = net n is
-fields_text kind.Pid (key.Pid n p) e is =
+fields_there : (of : Key) (le : 3 ≤ kind_of of) → IsKey of → Fields (kind_at of le).0 (fields of)
+fields_there (key.Net n) le is = net n is
+fields_there (key.Pid n p) le is =
     are_texts NetNames PidNames (name n) (name p) (net n is.0) (is_text is_pid_byte 64 p is.1)
-fields_text kind.Prefix (key.Prefix n p block) e is =
+fields_there (key.Prefix n p block) le is =
     are_texts (Pair NetNames PidNames) Prefixes (name n ++ name p) (prefix block)
     (are_texts NetNames PidNames (name n) (name p) (net n is.0) (is_text is_pid_byte 64 p is.1))
     (record { value = block; has_bits = is.2; spelled = refl })
-fields_text kind.Metric (key.Metric n m) e is =
+fields_there (key.Metric n m) le is =
     are_texts NetNames MetricNames (name n) (name m) (net n is.0) (is_text is_metric_byte 32 m is.1)
-fields_text kind.Cost (key.Cost n m s d) e is =
+fields_there (key.Cost n m s d) le is =
     are_texts (Pair NetNames MetricNames) (Pair PidNames PidNames) (name n ++ name m) (name s ++ name d)
     (are_texts NetNames MetricNames (name n) (name m) (net n is.0) (is_text is_metric_byte 32 m is.1))
     (are_texts PidNames PidNames (name s) (name d) (is_text is_pid_byte 64 s is.2) (is_text is_pid_byte 64 d is.3))
-fields_text kind.Prop (key.Prop n entity p) e is =
+fields_there (key.Prop n entity p) le is =
     are_texts NetNames (Pair Entities PropNames) (name n) (entity_bytes entity ++ name p) (net n is.0)
     (are_texts Entities PropNames (entity_bytes entity) (name p) (is_entity entity is.1)
     (is_text is_metric_byte 32 p is.2))
-fields_text kind.Ane (key.Ane n a) e is =
+fields_there (key.Ane n a) le is =
     are_texts NetNames AneNames (name n) (name a) (net n is.0) (is_text is_pid_byte 32 a is.1)
-fields_text kind.AneProp (key.AneProp n a p) e is =
+fields_there (key.AneProp n a p) le is =
     are_texts (Pair NetNames AneNames) PropNames (name n ++ name a) (name p)
     (are_texts NetNames AneNames (name n) (name a) (net n is.0) (is_text is_pid_byte 32 a is.1))
     (is_text is_metric_byte 32 p is.2)
-fields_text kind.Path (key.Path n s d) e is =
+fields_there (key.Path n s d) le is =
     are_texts NetNames (Pair PidNames PidNames) (name n) (name s ++ name d) (net n is.0)
     (are_texts PidNames PidNames (name s) (name d) (is_text is_pid_byte 64 s is.1) (is_text is_pid_byte 64 d is.2))
-fields_text kind.Seq (key.Seq of) e is = resource_text of is
-fields_text _ _ e is = absurd cc
+fields_there (key.Seq of) le is = resource_text of is
+fields_there key.Epoch le is = absurd (omega (arith, le))
+fields_there key.Window le is = absurd (omega (arith, le))
+
+pub fields_text : (at : KeyKind) (of : Key) → kind_of of ≡ key_number at → IsKey of → Fields at (fields of)
+fields_text at of e is =
+    subst (λ (k : KeyKind). Fields k (fields of)) (same_kind at of e) (fields_there of (stored_at at of e) is)
 
 pub behind_next : (at : KeyKind) (of : Key) (bytes rest : List ℕ) (why : Stop) → IsKeyAt (key_number at) bytes of rest
     → Stops (ValueTexts at) rest why → Stops (Behind at) bytes why
@@ -198,7 +208,7 @@ pub behind_read : (at : KeyKind) (of : Key) (v : Option Value) (bytes rest last 
     → IsStored (record { key = of; value = v })
     × (key_number at ∷ bytes ≡ write_bytes (record { key = of; value = v }) ++ last)
 behind_read at of v bytes rest last is fits e =
-    let le : 3 ≤ kind_of of = subst (λ n. 3 ≤ n) (sym is.kind) (stored_kind at) in (
+    let le = stored_at at of is.kind in (
       record {
         stored = le;
         is_key = is.is_key;
@@ -361,21 +371,6 @@ value_text s (Some (value.Names anes)) is =
         };
       };
     }
-
--- the kind of a key that is stored
-kind_at : (of : Key) → 3 ≤ kind_of of → (at : KeyKind) × (kind_of of ≡ key_number at)
-kind_at (key.Net net) le = (kind.Net, refl)
-kind_at (key.Pid net pid) le = (kind.Pid, refl)
-kind_at (key.Prefix net pid block) le = (kind.Prefix, refl)
-kind_at (key.Metric net metric) le = (kind.Metric, refl)
-kind_at (key.Cost net metric source destination) le = (kind.Cost, refl)
-kind_at (key.Prop net entity property) le = (kind.Prop, refl)
-kind_at (key.Ane net ane) le = (kind.Ane, refl)
-kind_at (key.AneProp net ane property) le = (kind.AneProp, refl)
-kind_at (key.Path net source destination) le = (kind.Path, refl)
-kind_at (key.Seq of) le = (kind.Seq, refl)
-kind_at key.Epoch le = absurd (omega (arith, le))
-kind_at key.Window le = absurd (omega (arith, le))
 
 pub is_write : (write : Write) → IsStored write → Writes (write_bytes write)
 is_write write is =

@@ -73,6 +73,12 @@ fn read_behind(alloc: Global, of: KeyKind, bytes: &[u8]) -> Result<(Write, &[u8]
     ensures stops { IfErr result (Stops (Behind of) bytes.now) }
 {
     let (key, rest) = read_key(alloc, of, bytes)?;
-    let (value, rest) = read_value(alloc, of.shape(), rest)?;
-    Ok((Write { key, value }, rest))
+    match read_value(alloc, of.shape(), rest) {
+        Ok((value, rest)) => Ok((Write { key, value }, rest)),
+        Err(stop) => {
+            // By a call, which is far cheaper to prove than a drop in place, variant by variant.
+            drop(key);
+            Err(stop)
+        }
+    }
 }

@@ -3,7 +3,7 @@ use Rattle.std.proofs.Common.{◌≡◌, refl, ap, sym, ◌∙◌}
 use Rattle.std.specs.Prelude.{Bool, true, false, cond, List, [], ◌∷◌, ◌++◌, Option, Some, None, map}
 use Rattle.json_tree.specs.Order.{names_of}
 use Rattle.json_tree.specs.Tree.{members_in_order}
-use Rattle.serde_json.specs.Data.{Data, object}
+use Rattle.serde_json.specs.Data.{Data}
 use Rattle.alto_maps.proofs.RisingLemmas.{named-rising}
 use Rattle.alto_maps.proofs.SetLemmas.{rise-set_of}
 use Rattle.alto_maps.specs.Places.{set_of}
@@ -13,15 +13,10 @@ use Rattle.alto_rows.specs.Good.{AreGood}
 use Rattle.alto_rows.specs.Rows.{Rows}
 use Rattle.doc_pieces.proofs.NameLemmas.{set_of-rising}
 use Rattle.cost_docs.specs.declared.costs.Cost.{Cost}
-use Rattle.cost_docs.specs.CostMap.{cost_face, source_in, sources_of}
+use Rattle.cost_docs.specs.CostMap.{cost_face, sources_of}
 use Rattle.cost_docs.specs.Costs.{costs_within}
-use Rattle.cost_docs.specs.Writing.{groups_of, name_begun}
+use Rattle.cost_docs.specs.Writing.{name_begun, names_left}
 use Rattle.cost_docs.proofs.GatheredLemmas.{Gathered, as_members, gathered, groups_gathered, with_cost}
-
--- the names of the groups that the costs that are left begin
-abbrev pub names_left : Option Name → List Cost → List Name
-names_left current [] = []
-names_left current (c ∷ costs) = name_begun current (Some c) ++ names_left (Some c.source) costs
 
 -- those of gathered groups, without that of the first, where it is begun
 abbrev group_names : List Gathered → List Name

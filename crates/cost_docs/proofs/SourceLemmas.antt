@@ -17,13 +17,9 @@ use Rattle.alto_maps.specs.Shape.{Name, group_object, section_object, stands}
 use Rattle.alto_rows.specs.Costs.{cost_of}
 use Rattle.cost_docs.specs.CostMap.{cost_face, destinations_of, number_data, sources_of}
 use Rattle.cost_docs.specs.Costs.{group_shown, groups_shown, shown}
+pub use Rattle.cost_docs.specs.Costs.{has_rows}
 use Rattle.cost_docs.proofs.CostLemmas.{AreTold, all_told}
 use Rattle.cost_docs.proofs.StandsLemmas.{has_any, stands_where}
-
--- there is a row
-abbrev pub has_rows : Rows → Bool
-has_rows [] = false
-has_rows (row ∷ rows) = true
 
 rows_from : (net metric src : Name) (rows : Rows)
     → has_rows (rows_in rows (span.CostsFrom net metric src)) ≡ has_any (destinations_of rows net metric src)

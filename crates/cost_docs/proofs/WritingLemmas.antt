@@ -12,13 +12,8 @@ use Rattle.alto_maps.specs.Shape.{Name, same_name}
 use Rattle.alto_maps.specs.Writing.{AddsMembers}
 use Rattle.cost_docs.specs.declared.costs.Cost.{Cost}
 use Rattle.cost_docs.specs.Costs.{costs_within}
-use Rattle.cost_docs.specs.Writing.{AddsTokens, cost_tokens, end_tokens, groups_of}
-use Rattle.cost_docs.proofs.GatheredLemmas.{Gathered, as_members, gathered, groups_gathered, with_cost}
-
--- the costs that are left, and the end of the groups
-abbrev pub tokens_left : Option Name → List Cost → List Token
-tokens_left current [] = end_tokens current ++ end_object ∷ []
-tokens_left current (c ∷ costs) = cost_tokens current (Some c) ++ tokens_left (Some c.source) costs
+use Rattle.cost_docs.specs.Writing.{AddsTokens, cost_tokens, groups_of, members_from, members_given, tokens_left}
+use Rattle.cost_docs.proofs.GatheredLemmas.{Gathered, as_members, gathered, groups_gathered, members_listed, with_cost}
 
 -- groups as members, and their end
 abbrev group_tokens : List Gathered → List Token
@@ -61,26 +56,39 @@ cost_before (Some src) c (group ∷ groups) = by (same_name src c.source) (same_
 
 -- the costs that are left make the groups that are left
 costs_make : (current : Option Name) (costs : List Cost)
-    → tokens_left current costs ≡ groups_left current (gathered costs)
+    → tokens_left current costs ++ end_object ∷ [] ≡ groups_left current (gathered costs)
 costs_make None [] = refl
 costs_make (Some src) [] = refl
-costs_make current (c ∷ costs) = ap (λ ts. cost_tokens current (Some c) ++ ts) (costs_make (Some c.source) costs)
-    ∙ cost_before current c (gathered costs)
+costs_make current (c ∷ costs) =
+    append_assoc (cost_tokens current (Some c)) (tokens_left (Some c.source) costs) (end_object ∷ [])
+    ∙ (ap (λ ts. cost_tokens current (Some c) ++ ts) (costs_make (Some c.source) costs)
+    ∙ cost_before current c (gathered costs))
 
--- behind the last cost the end of its group is written, and all groups are
-pub all_written : (net metric : Name) (rows : Rows) (left : List Cost) (current : Option Name) (old mid new : Written)
-    → AreGood rows → left ≡ []
-    → mid.tokens ++ tokens_left current left
-    ≡ old.tokens ++ tokens_left None (costs_within rows (span.CostsIn net metric)) → mid.before ≡ old.before
-    → AddsTokens (end_tokens current) mid new → AddsMembers (groups_of rows net metric) old new
-all_written net metric rows left current old mid new good none written same ended =
+-- what costs of a metric are written as, are all groups
+pub all_written : (net metric : Name) (rows : Rows) (costs : List Cost) (old new : Written)
+    → AreGood rows → costs ≡ costs_within rows (span.CostsIn net metric)
+    → AddsTokens (tokens_left None costs) old new → AddsMembers (groups_of rows net metric) old new
+all_written net metric rows costs old new good are added =
     record {
       tokens =
-          ap (λ ts. ts ++ end_object ∷ []) ended.added
-          ∙ (append_assoc mid.tokens (end_tokens current) (end_object ∷ [])
-          ∙ (rw none at written
+          ap (λ ts. ts ++ end_object ∷ []) added.added
+          ∙ (append_assoc old.tokens (tokens_left None costs) (end_object ∷ [])
           ∙ ap (λ ts. old.tokens ++ ts)
-          (costs_make None (costs_within rows (span.CostsIn net metric))
-          ∙ ap (λ ms. members_tokens (members_outline ms)) (sym (groups_gathered net metric rows good)))));
-      before = ended.before ∙ same;
+          (costs_make None costs
+          ∙ ap (λ ms. members_tokens (members_outline ms))
+          (ap (λ all. as_members (gathered all)) are ∙ sym (groups_gathered net metric rows good))));
+      before = added.before;
+    }
+
+-- and what costs from a source are written as, are the members of its group
+pub members_written : (net metric : Name) (rows : Rows) (src : Name) (costs : List Cost) (old new : Written)
+    → AreGood rows → costs ≡ costs_within rows (span.CostsFrom net metric src)
+    → AddsMembers (members_given costs) old new → AddsMembers (members_from rows net metric src) old new
+members_written net metric rows src costs old new good are added =
+    record {
+      tokens =
+          added.tokens
+          ∙ ap (λ ms. old.tokens ++ members_tokens (members_outline ms))
+          (ap members_given are ∙ sym (members_listed net metric rows src good));
+      before = added.before;
     }

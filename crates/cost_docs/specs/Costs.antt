@@ -1,5 +1,5 @@
 -- The costs of a metric one by one, and the groups of a map that shows them, or their ranks.
-use Rattle.std.specs.Prelude.{ℕ, List, Option, Some, None, map, option_map}
+use Rattle.std.specs.Prelude.{ℕ, Bool, true, false, List, [], ◌∷◌, Option, Some, None, map, option_map}
 use Rattle.std.specs.List.{filter_map}
 use Rattle.serde_json.specs.Data.{Data}
 use Rattle.json_tree.specs.Document.{object_of}
@@ -53,3 +53,8 @@ groups_among ranks rows net metric sources =
 -- the groups of all sources
 abbrev pub groups_shown : Option (List ℕ) → Rows → Name → Name → Data
 groups_shown ranks rows net metric = groups_among ranks rows net metric (sources_of rows net metric)
+
+-- there is a row
+abbrev pub has_rows : Rows → Bool
+has_rows [] = false
+has_rows (row ∷ rows) = true

@@ -4,6 +4,7 @@ use Rattle.json.specs.Token.{Token, key, number, begin_object, end_object}
 use Rattle.json.specs.Written.{Written}
 use Rattle.serde_json.specs.Data.{Members}
 use Rattle.json_tree.specs.Document.{members_of}
+use Rattle.json_tree.specs.Tree.{members_in_order}
 use Rattle.alto_rows.specs.Order.{same_name}
 use Rattle.alto_rows.specs.Rows.{Rows}
 use Rattle.alto_maps.specs.Shape.{Name, group_object}
@@ -37,6 +38,11 @@ cost_tokens current None = []
 cost_tokens current (Some cost) =
     turn_tokens current cost.source ++ key cost.destination ∷ number (decimal cost.amount) ∷ []
 
+-- costs that are left, each in the group of its source, and the end of the last group
+abbrev pub tokens_left : Option Name → List Cost → List Token
+tokens_left current [] = end_tokens current
+tokens_left current (c ∷ costs) = cost_tokens current (Some c) ++ tokens_left (Some c.source) costs
+
 -- the source whose group is begun behind it
 abbrev pub current_behind : Option Name → Option Cost → Option Name
 current_behind current None = current
@@ -51,10 +57,20 @@ abbrev pub name_begun : Option Name → Option Cost → List Name
 name_begun current None = []
 name_begun current (Some cost) = name_turned current cost.source
 
+-- the names of the groups that the costs that are left begin
+abbrev pub names_left : Option Name → List Cost → List Name
+names_left current [] = []
+names_left current (c ∷ costs) = name_begun current (Some c) ++ names_left (Some c.source) costs
+
 -- a cost as a member of its group
 abbrev pub member_tokens : Option Cost → List Token
 member_tokens None = []
 member_tokens (Some cost) = key cost.destination ∷ number (decimal cost.amount) ∷ []
+
+-- costs as members of one group
+abbrev pub members_given : List Cost → Members
+members_given costs =
+    members_in_order (map (λ (cost : Cost). (cost.destination, number_data (Some cost.amount))) costs)
 
 -- the members of the group of a source
 abbrev pub members_from : Rows → Name → Name → Name → Members

@@ -1,13 +1,14 @@
 //! The names of the groups of a cost map.
-ghost use Rattle.std.specs.Prelude.{◌≡◌, ◌++◌, IfOk, OnOk, Some};
+ghost use Rattle.std.specs.Prelude.{◌≡◌, ◌++◌, IfOk, OnOk, Some, None};
+ghost use Rattle.std.specs.List.{filter_map};
 ghost use Rattle.alto_rows.specs.Good.{AreGood};
 ghost use Rattle.cost_docs.specs.CostMap.{sources_of};
 ghost use Rattle.cost_docs.specs.Costs.{cost_given};
-ghost use Rattle.cost_docs.specs.Writing.{current_behind, name_begun, name_turned};
+ghost use Rattle.cost_docs.specs.Writing.{current_behind, name_begun, name_turned, names_left};
 
 use crate::writing::is_current;
 use alto_names::{Metric, NetName, PidName};
-use alto_rows::{Key, RowStore, Span, Value, rows_in};
+use alto_rows::{Key, RowStore, Span, Value, Within, rows_in};
 use json_tree::Name;
 use std::alloc::{AllocError, Global};
 
@@ -22,9 +23,20 @@ pub(crate) fn group_names<R: RowStore>(
     requires { AreGood (R.rows rows.now) }
     ensures { IfOk result (λ names. names.items ≡ sources_of (R.rows rows.now) net.now metric.now) }
 {
+    let mut costs = rows_in(rows, Span::CostsIn(net.clone()?, metric.clone()?));
+    let names = names_begun(alloc, &mut costs);
+    // a call, since what is dropped in place takes a proof for each kind of span
+    drop(costs);
+    names
+}
+
+/// The sources of the costs that the rows of a walk give, each once where its costs stand together.
+fn names_begun<R: RowStore>(alloc: Global, costs: &mut Within<R>) -> Result<Vec<Name>, AllocError>
+    ensures { IfOk result (λ names. names.items ≡ names_left None (filter_map cost_given costs.old)) }
+{
     let mut names = Vec::new(alloc);
     let mut current = None;
-    for row in rows_in(rows, Span::CostsIn(net.clone()?, metric.clone()?)) {
+    while let Some(row) = costs.next() {
         put_source(alloc, row, &mut current, &mut names)?;
     }
     Ok(names)

@@ -6,7 +6,10 @@ ghost use Rattle.alto_names.specs.Name.{IsPidName};
 ghost use Rattle.alto_maps.specs.Shape.{stands};
 ghost use Rattle.alto_rows.specs.Costs.{cost_of, number_at};
 ghost use Rattle.alto_rows.specs.Good.{AreGood};
+ghost use Rattle.alto_rows.specs.Rows.{value_of};
+ghost use Rattle.alto_rows.specs.Span.{rows_in};
 ghost use Rattle.cost_docs.specs.CostMap as spec;
+ghost use Rattle.cost_docs.specs.Costs.{has_rows};
 
 use crate::groups::{group, groups};
 use crate::meta::{meta, write_meta};
@@ -147,7 +150,18 @@ fn has_cost_from<R: RowStore>(
         ≡ stands (spec.cost_face net.now metric.now (R.rows rows.now)) source) }
 {
     let span = Span::CostsFrom(net.clone()?, metric.clone()?, source);
-    Ok(rows_in(rows, span).next().is_some())
+    Ok(has_rows(rows, span))
+}
+
+/// Whether a span has rows. One search.
+fn has_rows<R: RowStore>(rows: &R, span: Span) -> bool
+    ensures { result ≡ has_rows (rows_in (R.rows rows.now) span) }
+{
+    let mut walk = rows_in(rows, span);
+    let found = walk.next().is_some();
+    // a call, since what is dropped in place takes a proof for each kind of span
+    drop(walk);
+    found
 }
 
 /// The cost of a pair of these names, `None` exactly where it has none. One search.
@@ -183,8 +197,19 @@ fn cost_between<R: RowStore>(
     ensures { IfOk result (λ cost. cost
         ≡ cost_of (R.rows rows.now) net.now metric.now source destination) }
 {
-    let key = Key::Cost(net.clone()?, metric.clone()?, source, destination);
-    Ok(number_at(rows.get(&key)))
+    let net = net.clone()?;
+    let metric = metric.clone()?;
+    Ok(number_of_row(rows, Key::Cost(net, metric, source, destination)))
+}
+
+/// The number in the row of a key. One search.
+fn number_of_row<R: RowStore>(rows: &R, key: Key) -> Option<u64>
+    ensures { result ≡ number_at (value_of (R.rows rows.now) key) }
+{
+    let number = number_at(rows.get(&key));
+    // a call, since what is dropped in place takes a proof for each kind of key
+    drop(key);
+    number
 }
 
 /// The number that a row holds.

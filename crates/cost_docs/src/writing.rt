@@ -1,5 +1,6 @@
 //! The groups of a cost map as JSON text, written without a tree.
-ghost use Rattle.std.specs.Prelude.{◌≡◌, [], ◌∷◌, ◌++◌, Some, decimal, OnOk};
+ghost use Rattle.std.specs.Prelude.{◌≡◌, [], ◌∷◌, ◌++◌, Some, None, decimal, OnOk};
+ghost use Rattle.std.specs.List.{filter_map};
 ghost use Rattle.json.specs.Token.{key, number};
 ghost use Rattle.alto_rows.specs.Good.{AreGood};
 ghost use Rattle.alto_maps.specs.Shape.{group_object, section_object};
@@ -7,10 +8,11 @@ ghost use Rattle.alto_maps.specs.Writing.{AddsMember, AddsMembers, AddsValue};
 ghost use Rattle.cost_docs.specs.CostMap.{cost_face};
 ghost use Rattle.cost_docs.specs.Costs.{cost_given};
 ghost use Rattle.cost_docs.specs.Writing.{AddsTokens, cost_tokens, end_tokens, groups_of, turn_tokens};
-ghost use Rattle.cost_docs.specs.Writing.{current_behind, is_current, member_tokens, members_from};
+ghost use Rattle.cost_docs.specs.Writing.{current_behind, is_current, member_tokens, members_from, members_given};
+ghost use Rattle.cost_docs.specs.Writing.{tokens_left};
 
 use alto_names::{Metric, NetName, PidName};
-use alto_rows::{Key, RowStore, Span, Value, rows_in};
+use alto_rows::{Key, RowStore, Span, Value, Within, rows_in};
 use json::Writer;
 use std::alloc::{AllocError, Global};
 
@@ -30,7 +32,7 @@ pub(crate) fn write_groups<R: RowStore>(
     out.end_object()
 }
 
-/// Writes the groups as members: each begins before the first cost of its source, and ends behind the last.
+/// Writes the groups as members.
 fn write_each_cost<R: RowStore>(
     rows: &R,
     net: &NetName,
@@ -40,8 +42,20 @@ fn write_each_cost<R: RowStore>(
     requires { AreGood (R.rows rows.now) }
     ensures { OnOk result (AddsMembers (groups_of (R.rows rows.now) net.now metric.now) out.old out.new) }
 {
+    let mut costs = rows_in(rows, Span::CostsIn(net.clone()?, metric.clone()?));
+    let written = write_costs(&mut costs, out);
+    // a call, since what is dropped in place takes a proof for each kind of span
+    drop(costs);
+    written
+}
+
+/// Writes the costs that the rows of a walk give, in groups: each begins before the first cost of its source, and ends
+/// behind the last.
+fn write_costs<R: RowStore>(costs: &mut Within<R>, out: &mut Writer) -> Result<(), AllocError>
+    ensures { OnOk result (AddsTokens (tokens_left None (filter_map cost_given costs.old)) out.old out.new) }
+{
     let mut current = None;
-    for row in rows_in(rows, Span::CostsIn(net.clone()?, metric.clone()?)) {
+    while let Some(row) = costs.next() {
         write_row(row, &mut current, out)?;
     }
     end_group(&current, out)
@@ -78,7 +92,17 @@ fn write_members<R: RowStore>(
         (members_from (R.rows rows.now) net.now metric.now source.now) out.old out.new) }
 {
     let span = Span::CostsFrom(net.clone()?, metric.clone()?, source.clone()?);
-    for row in rows_in(rows, span) {
+    let mut costs = rows_in(rows, span);
+    let written = write_all_members(&mut costs, out);
+    drop(costs);
+    written
+}
+
+/// Writes the costs that the rows of a walk give, as members.
+fn write_all_members<R: RowStore>(costs: &mut Within<R>, out: &mut Writer) -> Result<(), AllocError>
+    ensures { OnOk result (AddsMembers (members_given (filter_map cost_given costs.old)) out.old out.new) }
+{
+    while let Some(row) = costs.next() {
         write_member(row, out)?;
     }
     Ok(())

@@ -1,21 +1,15 @@
 -- The destinations that the rows of a source hold.
 use Rattle.std.proofs.Common.{◌≡◌, refl, ap}
-use Rattle.std.specs.Prelude.{Bool, true, false, List, [], ◌∷◌, Option, Some, None}
+use Rattle.std.specs.Prelude.{Bool, true, false, List, [], ◌∷◌}
 use Rattle.std.specs.List.{filter_map}
-use Rattle.alto_rows.specs.declared.key.Key.{Key}
 use Rattle.alto_rows.specs.declared.key.Key.TheVariants as key
-use Rattle.alto_rows.specs.declared.value.Value.{Value}
 use Rattle.alto_rows.specs.declared.span.Span.TheVariants as span
 use Rattle.alto_rows.specs.Order.{same_name}
 use Rattle.alto_rows.specs.Rows.{Rows}
 use Rattle.alto_rows.specs.Span.{rows_in}
 use Rattle.alto_maps.specs.Shape.{Name}
 use Rattle.cost_docs.specs.CostMap.{destinations_of}
-
--- the destination of a row's cost
-abbrev pub destination : Key × Value → Option Name
-destination (key.Cost net metric src dst, v) = Some dst
-destination _ = None
+use Rattle.cost_filters.specs.Columns.{destination}
 
 -- the rows of a source in a metric hold its destinations
 pub destinations_in_span : (rows : Rows) (net metric src : Name)

@@ -3,6 +3,9 @@ use Rattle.std.specs.Prelude.{ℕ, List, [], ◌∷◌, Bool, true, false, Optio
 use Rattle.std.specs.List.{filter_map, flat_map}
 use Rattle.serde_json.specs.Data.{Data}
 use Rattle.json_tree.specs.Document.{object_of}
+use Rattle.alto_rows.specs.declared.key.Key.{Key}
+use Rattle.alto_rows.specs.declared.key.Key.TheVariants as key
+use Rattle.alto_rows.specs.declared.value.Value.{Value}
 use Rattle.alto_rows.specs.Rows.{Rows}
 use Rattle.alto_maps.specs.Shape.{Name}
 use Rattle.net_docs.specs.NetworkMap.{pids_of}
@@ -43,6 +46,11 @@ column_cost rows net src dst column = option_map (scaled column.scale) (cost_of 
 abbrev pub pair_value : Rows → Name → CostAskData → Name → Name → Option Data
 pair_value rows net ask src dst =
     if is_pair rows net ask src dst then Some (costs_data ask.multi (costs_of rows net ask.types src dst)) else None
+
+-- the destination of a row's cost
+abbrev pub destination : Key × Value → Option Name
+destination (key.Cost net metric src dst, v) = Some dst
+destination _ = None
 
 -- the PIDs to which a source has a cost in one of these metrics
 abbrev pub reached : Rows → Name → List Column → Name → List Name

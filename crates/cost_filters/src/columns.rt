@@ -1,14 +1,15 @@
 //! Asked cost types made ready for many pairs.
 ghost use Rattle.std.specs.Prelude.{◌≡◌, IfOk, option_map};
+ghost use Rattle.std.specs.List.{filter_map};
 ghost use Rattle.alto_rows.specs.Good.{AreGood};
 ghost use Rattle.cost_tables.specs.Tables.{IsSetOf};
-ghost use Rattle.cost_filters.specs.Columns.{column_of, columns_of, reached, scale_of, scaled};
+ghost use Rattle.cost_filters.specs.Columns.{column_of, columns_of, destination, reached, scale_of, scaled};
 ghost use Rattle.cost_docs.specs.CostMap as map_spec;
 
 use crate::names::distinct;
 use crate::types::CostType;
 use alto_names::{Metric, NetName, PidName};
-use alto_rows::{Key, RowStore, Span, rows_in};
+use alto_rows::{Key, RowStore, Span, Within, rows_in};
 use cost_docs::Ranks;
 use std::alloc::{AllocError, Global};
 
@@ -123,11 +124,25 @@ fn destinations_of<R: RowStore>(
     ensures { IfOk result (λ names. names.items
         ≡ map_spec.destinations_of (R.rows rows.now) net.now metric.now src.now) }
 {
-    let mut names = Vec::new(alloc);
-    for row in rows_in(
+    // a walk that is let go by one call is cheaper to prove than one that a loop drops at each exit
+    let mut walk = rows_in(
         rows,
         Span::CostsFrom(net.clone()?, metric.clone()?, src.clone()?),
-    ) {
+    );
+    let names = destinations_in(alloc, &mut walk);
+    drop(walk);
+    names
+}
+
+/// The PIDs to which the rows of a walk tell costs.
+fn destinations_in<R: RowStore>(
+    alloc: Global,
+    walk: &mut Within<R>,
+) -> Result<Vec<PidName>, AllocError>
+    ensures { IfOk result (λ names. names.items ≡ filter_map destination walk.old) }
+{
+    let mut names = Vec::new(alloc);
+    while let Some(row) = walk.next() {
         if let Key::Cost(_, _, _, dst) = &row.0 {
             names.push(dst.clone()?)?;
         }

@@ -1,14 +1,16 @@
 //! The PIDs that are asked for, in byte order.
 ghost use Rattle.std.specs.Prelude.{◌≡◌, IfOk, option_map};
+ghost use Rattle.std.specs.List.{filter_map};
 ghost use Rattle.alto_maps.specs.Places.{set_of};
 ghost use Rattle.alto_rows.specs.Good.{AreGood};
 ghost use Rattle.cost_filters.specs.Columns.{srcs_tried};
 ghost use Rattle.cost_tables.specs.Tables.{IsSetOf};
 ghost use Rattle.cost_filters.specs.Names.{names_given};
 ghost use Rattle.net_docs.specs.NetworkMap as net_spec;
+ghost use Rattle.net_docs.specs.Prefixes.{pid_in};
 
 use alto_names::{NetName, PidName};
-use alto_rows::{Key, RowStore, Span, rows_in};
+use alto_rows::{Key, RowStore, Span, Within, rows_in};
 use net_docs::Pick;
 use std::alloc::{AllocError, Global};
 use std::collections::BTreeSet;
@@ -59,8 +61,19 @@ pub(crate) fn pids_of<R: RowStore>(
 ) -> Result<Vec<PidName>, AllocError>
     ensures { IfOk result (λ pids. pids.items ≡ net_spec.pids_of (R.rows rows.now) net.now) }
 {
+    // a walk that is let go by one call is cheaper to prove than one that a loop drops at each exit
+    let mut walk = rows_in(rows, Span::Pids(net.clone()?));
+    let pids = pids_in(alloc, &mut walk);
+    drop(walk);
+    pids
+}
+
+/// The PIDs that the rows of a walk declare.
+fn pids_in<R: RowStore>(alloc: Global, walk: &mut Within<R>) -> Result<Vec<PidName>, AllocError>
+    ensures { IfOk result (λ pids. pids.items ≡ filter_map pid_in walk.old) }
+{
     let mut pids = Vec::new(alloc);
-    for row in rows_in(rows, Span::Pids(net.clone()?)) {
+    while let Some(row) = walk.next() {
         if let Key::Pid(_, pid) = &row.0 {
             pids.push(pid.clone()?)?;
         }

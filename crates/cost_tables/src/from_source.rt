@@ -1,15 +1,15 @@
 //! The costs in a metric from one source.
 ghost use Rattle.std.specs.Prelude.{◌≡◌, ◌++◌, ◌∷◌, [], true, IfOk, IfSome, OnOk, length, map, nat_eq, slice_get, zip};
 ghost use Rattle.std.specs.Arc.{arc_value};
-ghost use Rattle.std.specs.List.{AllByRecursion};
+ghost use Rattle.std.specs.List.{AllByRecursion, filter_map};
 ghost use Rattle.alto_rows.specs.Rows.{AreSorted};
 ghost use Rattle.cost_tables.specs.declared.places.Guess.{Guess};
 ghost use Rattle.cost_tables.specs.Guesses.{IsGuess};
-ghost use Rattle.cost_tables.specs.Tables.{cost_to, costs_from};
+ghost use Rattle.cost_tables.specs.Tables.{cost_given, cost_to, costs_from};
 
 use crate::places::{Guess, Places, keep_place};
 use alto_names::{Metric, NetName, PidName};
-use alto_rows::{Key, RowStore, Span, Value, rows_in};
+use alto_rows::{Key, RowStore, Span, Value, Within, rows_in};
 use std::alloc::{AllocError, Global};
 use std::marker::Model;
 use std::sync::Arc;
@@ -171,10 +171,26 @@ fn costs_from<R: RowStore>(
         ≡ costs_from (R.rows rows.now) net.now metric.now source.now) }
     ensures even { IfOk result (λ lists. length lists.1.items ≡ length lists.0.items) }
 {
+    let span = Span::CostsFrom(net.clone()?, metric.clone()?, source.clone()?);
+    let mut walk = rows_in(rows, span);
+    let lists = costs_walked(alloc, &mut walk);
+    // By a call: a walk that goes out of scope is dear to prove.
+    drop(walk);
+    lists
+}
+
+/// The destinations of the costs that the rows of a walk give, and the costs, with no spare room. The walk is only
+/// borrowed: it is let go in one place.
+fn costs_walked<R: RowStore>(
+    alloc: Global,
+    walk: &mut Within<R>,
+) -> Result<(Vec<PidName>, Vec<u64>), AllocError>
+    ensures told { IfOk result (λ lists. zip lists.0.items lists.1.items ≡ filter_map cost_given walk.old) }
+    ensures even { IfOk result (λ lists. length lists.1.items ≡ length lists.0.items) }
+{
     let mut destinations = Vec::new(alloc);
     let mut costs = Vec::new(alloc);
-    let span = Span::CostsFrom(net.clone()?, metric.clone()?, source.clone()?);
-    for row in rows_in(rows, span) {
+    while let Some(row) = walk.next() {
         if let (Key::Cost(_, _, _, destination), Value::Num(cost)) = (&row.0, &row.1) {
             push(&mut destinations, &mut costs, destination, *cost)?;
         }

@@ -6,7 +6,7 @@ ghost use Rattle.alto_rows.specs.Order.{same_name};
 ghost use Rattle.cost_tables.specs.Tables.{IsSetOf, Name, source_of, sources_of};
 
 use alto_names::{Metric, NetName, PidName};
-use alto_rows::{Key, RowStore, Span, Write, rows_in};
+use alto_rows::{Key, RowStore, Span, Within, Write, rows_in};
 use std::alloc::{AllocError, Global};
 use std::collections::BTreeSet;
 
@@ -20,8 +20,26 @@ pub(crate) fn sources_in<R: RowStore>(
     ensures { IfOk result (λ sources. IsSetOf sources.items
         (sources_of net.now metric.now (keys_of (R.rows rows.now)))) }
 {
+    let mut costs = rows_in(rows, Span::CostsIn(net.clone()?, metric.clone()?));
+    let sources = sources_walked(alloc, net, metric, &mut costs);
+    // By a call: a walk that goes out of scope is dear to prove.
+    drop(costs);
+    sources
+}
+
+/// All sources that the rows of a walk have a cost of a metric from. The walk is only borrowed: it is let go in one
+/// place.
+fn sources_walked<R: RowStore>(
+    alloc: Global,
+    net: &NetName,
+    metric: &Metric,
+    costs: &mut Within<R>,
+) -> Result<Vec<PidName>, AllocError>
+    ensures { IfOk result (λ sources. IsSetOf sources.items
+        (sources_of net.now metric.now (keys_of costs.old))) }
+{
     let mut sources = BTreeSet::new(alloc);
-    for row in rows_in(rows, Span::CostsIn(net.clone()?, metric.clone()?)) {
+    while let Some(row) = costs.next() {
         if let Some(source) = source_of(net, metric, &row.0) {
             add(&mut sources, source)?;
         }

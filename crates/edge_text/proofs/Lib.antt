@@ -6,4 +6,5 @@ pub mod WrittenLemmas
 pub mod OperationLemmas
 pub mod ChangeLemmas
 pub mod PathLemmas
+pub mod CostLemmas
 pub mod TurnLemmas

@@ -1,8 +1,7 @@
 -- What a pair brings where its source was turned to, and where it wasn't.
 use Rattle.std.proofs.Common.{◌≡◌, ℕ, refl, ap, sym, ◌∙◌, append-nil}
-use Rattle.std.specs.Prelude.{Bool, true, false, cond, List, [], ◌∷◌, ◌++◌, Option, Some, None, map, option_map}
+use Rattle.std.specs.Prelude.{Bool, true, false, cond, [], ◌++◌, Option, Some, None, map, option_map}
 use Rattle.std.specs.Prelude.{unwrap_or}
-use Rattle.json_patch.specs.Operations.{Operation}
 use Rattle.alto_rows.specs.Good.{AreGood}
 use Rattle.alto_rows.specs.Rows.{Rows}
 use Rattle.alto_maps.specs.OperationForm.{under}

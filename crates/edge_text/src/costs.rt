@@ -1,5 +1,6 @@
 //! The costs that a patch is made of.
 ghost use Rattle.std.specs.Prelude.{◌≡◌, IfOk, OnOk, option_copied};
+ghost use Rattle.std.specs.List.{flat_map};
 ghost use Rattle.alto_rows.specs.Costs.{number_at};
 ghost use Rattle.alto_rows.specs.Good.{AreGood};
 ghost use Rattle.alto_maps.specs.Shape.{group_object, stands};
@@ -9,7 +10,7 @@ ghost use Rattle.cost_docs.specs.Costs.{cost_given};
 ghost use Rattle.cost_docs.specs.Writing.{AddsTokens, member_tokens, members_from};
 
 use alto_names::{Metric, NetName, PidName};
-use alto_rows::{Key, RowStore, Span, Value, rows_in};
+use alto_rows::{Key, RowStore, Span, Value, Within, rows_in};
 use json::Writer;
 use std::alloc::AllocError;
 
@@ -34,7 +35,11 @@ pub(crate) fn has_cost_from<R: RowStore>(
         ≡ stands (spec.cost_face net.now metric.now (R.rows rows.now)) source.now) }
 {
     let span = Span::CostsFrom(net.clone()?, metric.clone()?, source.clone()?);
-    Ok(rows_in(rows, span).next().is_some())
+    let mut walk = rows_in(rows, span);
+    let found = walk.next().is_some();
+    // By a call: a walk that goes out of scope is dear to prove.
+    drop(walk);
+    Ok(found)
 }
 
 /// Writes the group of a source as an object. One search and one walk over its rows.
@@ -67,7 +72,17 @@ fn write_members<R: RowStore>(
         (members_from (R.rows rows.now) net.now metric.now source.now) out.old out.new) }
 {
     let span = Span::CostsFrom(net.clone()?, metric.clone()?, source.clone()?);
-    for row in rows_in(rows, span) {
+    let mut walk = rows_in(rows, span);
+    let written = write_walked(&mut walk, out);
+    drop(walk);
+    written
+}
+
+/// Writes the costs that the rows of a walk give, as members. The walk is only borrowed: it is let go in one place.
+fn write_walked<R: RowStore>(walk: &mut Within<R>, out: &mut Writer) -> Result<(), AllocError>
+    ensures { OnOk result (AddsTokens (flat_map (λ row. member_tokens (cost_given row)) walk.old) out.old out.new) }
+{
+    while let Some(row) = walk.next() {
         write_member(row, out)?;
     }
     Ok(())

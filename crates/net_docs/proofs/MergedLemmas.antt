@@ -19,6 +19,7 @@ use Rattle.alto_rows.proofs.OrderLemmas.{name_cmp_exact, name_cmp_itself}
 use Rattle.alto_rows.proofs.RowsLemmas.{ArePast, past_first, sorted_rest}
 use Rattle.alto_rows.proofs.TouchesLemmas.{one_name, same_name_itself}
 use Rattle.alto_maps.specs.Shape.{Name, group_object}
+use Rattle.net_docs.specs.Merged.{with_merged}
 use Rattle.net_docs.specs.NetworkMap.{net_face, pids_of}
 use Rattle.net_docs.specs.Prefixes.{Owned, from_pid, leading_of, group_of, prefixes_owned}
 use Rattle.net_docs.proofs.GroupLemmas.{group_owned}
@@ -133,12 +134,6 @@ leading_owned pid (first ∷ rest) rise all = by (same_name pid first.1) refl (l
     by false e below = rw (e, none_owned pid rest first.1 (past all.0 e) rise.0) refl
 
 -- ---- one PID after another
-
--- members with a group for each of these PIDs, its prefixes taken from those that are left
-abbrev pub with_merged : Members → List Name → Owned → Members
-with_merged members [] left = members
-with_merged members (pid ∷ pids) left =
-    with_merged (with_member pid (group_of (leading_of pid (from_pid pid left))) members) pids (from_pid pid left)
 
 -- what holds of each PID of a list behind one holds of the prefixes from that on
 owned_behind : (value : Name → List Prefix) (pid : Name) (pids : List Name) (left : Owned)

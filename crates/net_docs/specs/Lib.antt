@@ -3,5 +3,6 @@ pub mod Prefixes
 pub mod Writing
 pub mod Differ
 pub mod Laws
+pub mod Merged
 pub mod Ask
 pub mod Filter

@@ -1,4 +1,5 @@
 ghost use Rattle.std.specs.Prelude.{◌≡◌, true, [], ◌∷◌, codes, IfOk};
+ghost use Rattle.serde_json.specs.Data.{string};
 ghost use Rattle.serde_json.specs.Written.{compact_text};
 ghost use Rattle.alto_rows.specs.Good.{AreGood};
 ghost use Rattle.alto_rows.specs.Rows.{has_row};
@@ -8,10 +9,10 @@ ghost use Rattle.json_tree.specs.Tree.{data_of};
 ghost use Rattle.net_docs.specs.NetworkMap as spec;
 
 use crate::source::NetMap;
-use crate::version::tag;
+use crate::version::net_tag;
 use alto_maps::{snapshot, write_document};
 use alto_names::NetName;
-use alto_rows::{Resource, RowStore};
+use alto_rows::RowStore;
 use json_tree::{Members, Tree};
 use std::alloc::{AllocError, Global};
 
@@ -51,9 +52,19 @@ pub(crate) fn meta_of(alloc: Global, version_tag: Tree) -> Result<Tree, AllocErr
 pub fn version_tag<R: RowStore>(alloc: Global, rows: &R, net: &NetName) -> Result<Tree, AllocError>
     ensures { IfOk result (λ tree. data_of tree ≡ spec.version_tag (R.rows rows.now) net.now) }
 {
-    let tag = tag(alloc, rows, &Resource::Net(net.clone()?))?;
+    let tag = net_tag(alloc, rows, net)?;
+    named_tag(alloc, net, Tree::Text(tag))
+}
+
+/// The version tag of a network's map that has this tag.
+#[tactic(auto, unfolding(json_tree::specs::Document::with_member))]
+fn named_tag(alloc: Global, net: &NetName, tag: Tree) -> Result<Tree, AllocError>
+    ensures { IfOk result (λ tree. data_of tree
+        ≡ object_of ((codes "resource-id", string net.now) ∷ (codes "tag", data_of tag) ∷ [])) }
+{
+    let id = Tree::text(alloc, net.as_str())?;
     let mut version = Members::new(alloc);
-    version.put(alloc, "resource-id", Tree::text(alloc, net.as_str())?)?;
-    version.put(alloc, "tag", Tree::Text(tag))?;
+    version.put(alloc, "resource-id", id)?;
+    version.put(alloc, "tag", tag)?;
     Ok(version.into_tree())
 }

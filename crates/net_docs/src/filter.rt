@@ -13,11 +13,11 @@ ghost use Rattle.net_docs.specs.Prefixes.{with_texts};
 
 use crate::ask::{Family, NetAsk, Pick};
 use crate::document::{meta_of, version_tag};
-use crate::pids::pid_in;
+use crate::pids::{is_declared, pids_of};
 use crate::prefixes::{prefixes_of, put_texts};
 use alto_addr::Prefix;
 use alto_names::{NetName, PidName};
-use alto_rows::{Key, RowStore, Span, rows_in};
+use alto_rows::RowStore;
 use json_tree::{Members, Tree};
 use std::alloc::{AllocError, Global};
 
@@ -78,11 +78,24 @@ fn all_groups<R: RowStore>(
         ≡ object_of (map (λ pid. (pid, asked_group (R.rows rows.now) net.now families.now pid))
         (pids_of (R.rows rows.now) net.now))) }
 {
+    let pids = pids_of(alloc, rows, net)?;
+    groups_of(alloc, rows, net, &pids, families)
+}
+
+/// The groups of these PIDs.
+fn groups_of<R: RowStore>(
+    alloc: Global,
+    rows: &R,
+    net: &NetName,
+    pids: &[PidName],
+    families: &[Family],
+) -> Result<Tree, AllocError>
+    ensures { IfOk result (λ tree. data_of tree
+        ≡ object_of (map (λ pid. (pid, asked_group (R.rows rows.now) net.now families.now pid)) pids.now)) }
+{
     let mut groups = Members::new(alloc);
-    for row in rows_in(rows, Span::Pids(net.clone()?)) {
-        if let Some(pid) = pid_in(row) {
-            groups.put(alloc, pid.as_str(), group(alloc, rows, net, pid, families)?)?;
-        }
+    for pid in pids {
+        groups.put(alloc, pid.as_str(), group(alloc, rows, net, pid, families)?)?;
     }
     Ok(groups.into_tree())
 }
@@ -106,14 +119,6 @@ fn groups_among<R: RowStore>(
         }
     }
     Ok(groups.into_tree())
-}
-
-/// Whether a network has a PID. One search.
-fn is_declared<R: RowStore>(rows: &R, net: &NetName, pid: &PidName) -> Result<bool, AllocError>
-    ensures { IfOk result (λ declared. declared ≡ has_row (R.rows rows.now) (key.Pid net.now pid.now)) }
-{
-    let key = Key::Pid(net.clone()?, pid.clone()?);
-    Ok(rows.get(&key).is_some())
 }
 
 /// The group of a PID, with the families that are asked for.

@@ -7,13 +7,13 @@ ghost use Rattle.net_docs.specs.NetworkMap.{net_face};
 ghost use Rattle.net_docs.specs.Prefixes as spec;
 
 use crate::document::{meta_of, version_tag};
-use crate::pids::{group, group_names, groups};
+use crate::pids::{group, group_names, groups, is_declared};
 use crate::prefixes::{prefixes_of, texts_in_family};
-use crate::version::tag;
+use crate::version::net_tag;
 use crate::writing::{write_group, write_groups, write_meta};
 use alto_maps::{MapSource, Walked};
 use alto_names::{NameFault, NetName, PidName};
-use alto_rows::{Key, Resource, RowStore};
+use alto_rows::RowStore;
 use doc_pieces::Grouped;
 use json::Writer;
 use json_tree::{Name, Tree};
@@ -69,8 +69,7 @@ impl<'a, R: RowStore> MapSource for NetMap<'a, R> {
     }
 
     fn version(&self, alloc: Global) -> Result<Tree, AllocError> {
-        let of = Resource::Net(self.net.clone()?);
-        Ok(Tree::from_name(tag(alloc, self.rows, &of)?))
+        Ok(Tree::from_name(net_tag(alloc, self.rows, self.net)?))
     }
 
     fn meta(&self, alloc: Global) -> Result<Tree, AllocError> {
@@ -158,8 +157,7 @@ fn if_declared<R: RowStore>(
 ) -> Result<Option<PidName>, AllocError>
     ensures { IfOk result (λ found. found ≡ spec.pid_standing (R.rows rows.now) net.now pid) }
 {
-    let key = Key::Pid(net.clone()?, pid.clone()?);
-    if rows.get(&key).is_some() {
+    if is_declared(rows, net, &pid)? {
         Ok(Some(pid))
     } else {
         Ok(None)

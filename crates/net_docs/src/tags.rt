@@ -6,9 +6,9 @@ ghost use Rattle.alto_maps.specs.Writing.{AddsMember, AddsValue};
 ghost use Rattle.net_docs.specs.NetworkMap as spec;
 
 use crate::document::version_tag;
-use crate::version::tag;
+use crate::version::net_tag;
 use alto_names::NetName;
-use alto_rows::{Resource, RowStore};
+use alto_rows::RowStore;
 use json::Writer;
 use json_tree::Tree;
 use std::alloc::{AllocError, Global};
@@ -52,7 +52,7 @@ pub(crate) fn write_version_tag<R: RowStore>(
 ) -> Result<(), AllocError>
     ensures { OnOk result (AddsValue (spec.version_tag (R.rows rows.now) net.now) out.old out.new) }
 {
-    let tag = tag(alloc, rows, &Resource::Net(net.clone()?))?;
+    let tag = net_tag(alloc, rows, net)?;
     out.begin_object()?;
     write_text(out, "resource-id", net.as_str())?;
     write_text(out, "tag", tag.as_str())?;

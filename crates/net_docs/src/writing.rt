@@ -1,5 +1,6 @@
 //! A network map's parts as JSON text, written without a tree.
-ghost use Rattle.std.specs.Prelude.{◌≡◌, true, false, not, OnOk};
+ghost use Rattle.std.specs.Prelude.{◌≡◌, true, false, not, map, OnOk};
+ghost use Rattle.json_tree.specs.Tree.{members_in_order};
 ghost use Rattle.alto_rows.specs.Good.{AreGood};
 ghost use Rattle.alto_maps.specs.Shape.{group_object, section_object};
 ghost use Rattle.alto_maps.specs.Writing.{AddsValue, AddsMember, AddsMembers};
@@ -7,12 +8,12 @@ ghost use Rattle.net_docs.specs.NetworkMap.{is_empty, net_face};
 ghost use Rattle.net_docs.specs.Prefixes.{group_of, texts_in_family};
 ghost use Rattle.net_docs.specs.Writing.{AddsFamily, AddsTexts, groups_of};
 
-use crate::pids::pid_in;
+use crate::pids::pids_of;
 use crate::prefixes::{family, prefixes_of};
 use crate::tags::write_version_tag;
 use alto_addr::{Prefix, print_prefix};
 use alto_names::{NetName, PidName};
-use alto_rows::{RowStore, Span, rows_in};
+use alto_rows::RowStore;
 use json::Writer;
 use std::alloc::{AllocError, Global};
 
@@ -58,10 +59,24 @@ fn write_each_group<R: RowStore>(
     requires { AreGood (R.rows rows.now) }
     ensures { OnOk result (AddsMembers (groups_of (R.rows rows.now) net.now) out.old out.new) }
 {
-    for row in rows_in(rows, Span::Pids(net.clone()?)) {
-        if let Some(pid) = pid_in(row) {
-            write_group(alloc, rows, net, pid, out)?;
-        }
+    let pids = pids_of(alloc, rows, net)?;
+    write_groups_of(alloc, rows, net, &pids, out)
+}
+
+/// Writes the groups of these PIDs as members, in this order.
+fn write_groups_of<R: RowStore>(
+    alloc: Global,
+    rows: &R,
+    net: &NetName,
+    pids: &[PidName],
+    out: &mut Writer,
+) -> Result<(), AllocError>
+    ensures { OnOk result (AddsMembers
+        (members_in_order (map (λ pid. (pid, group_object (net_face net.now (R.rows rows.now)) pid)) pids.now))
+        out.old out.new) }
+{
+    for pid in pids {
+        write_group(alloc, rows, net, pid, out)?;
     }
     Ok(())
 }

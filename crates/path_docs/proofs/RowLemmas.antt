@@ -1,7 +1,7 @@
 -- What rows hold of the paths of a source, and that both PIDs of a pair with a path are declared.
 use Rattle.std.proofs.Common.{◌≡◌, ◌∙◌, refl, ap, sym}
 use Rattle.std.proofs.lemmas.List.Elements.{recursion_from_All}
-use Rattle.std.specs.Prelude.{Bool, true, false, ◌&&◌, List, [], ◌∷◌, Option, Some, None, is_some, option_map}
+use Rattle.std.specs.Prelude.{Bool, true, false, ◌&&◌, [], ◌∷◌, Option, Some, None, is_some, option_map}
 use Rattle.std.specs.BTreeMap.{is_at}
 use Rattle.std.specs.List.{AllByRecursion, cons_option, filter_map, list_any}
 use Rattle.std.specs.Map.{lookup}

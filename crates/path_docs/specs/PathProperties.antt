@@ -1,5 +1,5 @@
 -- The second part of an answer (RFC 9275, section 7.2.6): the property map of the ANEs of the first part.
-use Rattle.std.specs.Prelude.{ℕ, List, [], ◌∷◌, ◌++◌, Bool, true, false, Option, Some, None, map, codes}
+use Rattle.std.specs.Prelude.{ℕ, List, [], ◌∷◌, ◌++◌, Bool, true, Option, Some, None, map, codes}
 use Rattle.std.specs.List.{flat_map}
 use Rattle.serde_json.specs.Data.{Data, number, unsigned}
 use Rattle.json_tree.specs.Document.{array_of, object_of}

@@ -1,14 +1,16 @@
 //! The pairs that are asked for, with their paths.
 ghost use Rattle.std.specs.Prelude.{◌≡◌, IfOk, map, option_copied, option_map};
+ghost use Rattle.std.specs.List.{filter_map};
 ghost use Rattle.alto_rows.specs.Good.{AreGood};
 ghost use Rattle.net_docs.specs.NetworkMap as net_spec;
+ghost use Rattle.net_docs.specs.Prefixes.{pid_in};
 ghost use Rattle.path_docs.specs.Found as spec;
 ghost use Rattle.path_docs.specs.Found.{destinations_of, pairs_among, source_found, sources_found};
 ghost use Rattle.path_docs.specs.PathCosts.{anes_at, path_of};
 
 use crate::ask::PathAsk;
 use alto_names::{AneName, NetName, PidName};
-use alto_rows::{Key, RowStore, Span, Value, rows_in};
+use alto_rows::{Key, RowStore, Span, Value, Within, rows_in};
 use net_docs::Pick;
 use std::alloc::{AllocError, Global};
 use std::marker::Model;
@@ -68,8 +70,22 @@ pub(crate) fn sources_found<'a, R: RowStore>(
 fn pids_of<R: RowStore>(alloc: Global, rows: &R, net: &NetName) -> Result<Vec<PidName>, AllocError>
     ensures { IfOk result (λ pids. pids.items ≡ net_spec.pids_of (R.rows rows.now) net.now) }
 {
+    let mut declared = rows_in(rows, Span::Pids(net.clone()?));
+    let pids = pids_walked(alloc, &mut declared);
+    // dropped by a call: that is far cheaper to prove than a drop in place at each exit of the loop
+    drop(declared);
+    pids
+}
+
+/// The PIDs that the rows of a walk declare.
+fn pids_walked<R: RowStore>(
+    alloc: Global,
+    declared: &mut Within<R>,
+) -> Result<Vec<PidName>, AllocError>
+    ensures { IfOk result (λ pids. pids.items ≡ filter_map pid_in declared.old) }
+{
     let mut pids = Vec::new(alloc);
-    for row in rows_in(rows, Span::Pids(net.clone()?)) {
+    while let Some(row) = declared.next() {
         if let Key::Pid(_, pid) = &row.0 {
             pids.push(pid.clone()?)?;
         }
@@ -126,8 +142,21 @@ fn all_pairs<'a, R: RowStore>(
     ensures { IfOk result (λ pairs. pairs.items ≡ pairs_among (R.rows rows.now) net.now src.now
         (destinations_of (R.rows rows.now) net.now src.now)) }
 {
+    let mut paths = rows_in(rows, Span::PathsFrom(net.clone()?, src.clone()?));
+    let pairs = pairs_walked(alloc, &mut paths);
+    drop(paths);
+    pairs
+}
+
+/// The pairs of the rows of a walk.
+fn pairs_walked<'a, R: RowStore>(
+    alloc: Global,
+    paths: &mut Within<'a, R>,
+) -> Result<Vec<Pair<'a>>, AllocError>
+    ensures { IfOk result (λ pairs. pairs.items ≡ filter_map spec.pair_in paths.old) }
+{
     let mut pairs = Vec::new(alloc);
-    for row in rows_in(rows, Span::PathsFrom(net.clone()?, src.clone()?)) {
+    while let Some(row) = paths.next() {
         if let Some(pair) = pair_in(row)? {
             pairs.push(pair)?;
         }
@@ -181,7 +210,9 @@ fn path_of<'a, R: RowStore>(
         ≡ path_of (R.rows rows.now) net.now src.now dst.now) }
 {
     let key = Key::Path(net.clone()?, src.clone()?, dst.clone()?);
-    Ok(anes_at(rows.get(&key)))
+    let anes = anes_at(rows.get(&key));
+    drop(key);
+    Ok(anes)
 }
 
 /// The ANEs that a row holds.

@@ -1,6 +1,6 @@
 -- The texts of the entities of a network, gathered row by row.
 use Rattle.std.proofs.Common.{◌≡◌, refl, ap, sym}
-use Rattle.std.specs.Prelude.{false, List, [], fold, None}
+use Rattle.std.specs.Prelude.{false, List, fold, None}
 use Rattle.std.specs.BTreeSet.{insert_key}
 use Rattle.std.specs.Cmp.Lexicographic.{slice_cmp}
 use Rattle.std.specs.List.{filter_map}
@@ -26,7 +26,6 @@ outside net (key.Prop of entity name, v) out = rw out refl
 outside net _ out = refl
 
 -- all rows of a network's properties give all texts
-pub all_texts : (net : Name) (rows : Rows) → with_texts [] (filter_map (entity_in net) (rows_in rows (span.Props net)))
-    ≡ entities_of rows net
-unfolding set_of
-all_texts net rows = ap (with_texts []) (sym (filter_map-rows_in (entity_in net) (span.Props net) (outside net) rows))
+pub all_texts : (net : Name) (rows : Rows)
+    → set_of (filter_map (entity_in net) (rows_in rows (span.Props net))) ≡ entities_of rows net
+all_texts net rows = ap set_of (sym (filter_map-rows_in (entity_in net) (span.Props net) (outside net) rows))

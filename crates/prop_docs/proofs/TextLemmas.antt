@@ -5,7 +5,7 @@ use Rattle.std.specs.Prelude.{Bool, true, false, ◌↔◌, cond, Option, Some, 
 use Rattle.alto_rows.specs.declared.entity.Entity.{Entity}
 use Rattle.alto_rows.specs.Entities.{WritesEntity, entity_text}
 use Rattle.alto_rows.specs.Good.{IsEntity}
-use Rattle.alto_rows.specs.Order.{entity_cmp, same_name}
+use Rattle.alto_rows.specs.Order.{entity_cmp}
 use Rattle.alto_rows.specs.Span.{same_entity}
 use Rattle.alto_rows.proofs.EntityLemmas.{entity_as_written}
 use Rattle.alto_rows.proofs.OrderLemmas.{entity_cmp_exact, entity_cmp_total, equal_tests}

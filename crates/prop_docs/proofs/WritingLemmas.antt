@@ -1,5 +1,5 @@
 -- Properties that are written one behind another.
-use Rattle.std.proofs.Common.{◌≡◌, refl, sym, subst, ◌∙◌, append_assoc}
+use Rattle.std.proofs.Common.{◌≡◌, sym, subst}
 use Rattle.std.specs.Prelude.{List, [], ◌∷◌, ◌++◌, map}
 use Rattle.std.specs.List.Sorted.{IsStrictlySortedBy}
 use Rattle.json.specs.Token.{begin_object, end_object}

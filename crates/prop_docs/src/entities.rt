@@ -1,12 +1,14 @@
 //! Entities and their texts (RFC 9240, section 5.1.3).
 ghost use Rattle.std.specs.Prelude.{◌≡◌, IfOk};
+ghost use Rattle.std.specs.List.{filter_map};
+ghost use Rattle.alto_maps.specs.Places.{set_of};
 ghost use Rattle.alto_rows.specs.Good.{IsEntity};
 ghost use Rattle.alto_rows.specs.declared.entity.Entity.{Entity as TheEntity};
 ghost use Rattle.prop_docs.specs.Properties.{if_text_of, is_found};
 ghost use Rattle.prop_docs.specs.PropertyMap as spec;
 
 use alto_names::NetName;
-use alto_rows::{Entity, Key, RowStore, Span, Value, print_entity, read_entity, rows_in};
+use alto_rows::{Entity, Key, RowStore, Span, Value, Within, print_entity, read_entity, rows_in};
 use json_tree::Name;
 use std::alloc::{AllocError, Global};
 use std::collections::BTreeSet;
@@ -20,8 +22,24 @@ pub(crate) fn entities_of<R: RowStore>(
 ) -> Result<BTreeSet<Name>, AllocError>
     ensures { IfOk result (λ texts. texts.keys ≡ spec.entities_of (R.rows rows.now) net.now) }
 {
+    // a walk that is let go by one call is cheaper to prove than one that a loop drops at each exit
+    let mut walk = rows_in(rows, Span::Props(net.clone()?));
+    let texts = entities_in(alloc, net, &mut walk);
+    drop(walk);
+    texts
+}
+
+/// The texts of the entities of a network to which the rows of a walk give properties.
+#[tactic(auto, unfolding(alto_maps::specs::Places::set_of))]
+fn entities_in<R: RowStore>(
+    alloc: Global,
+    net: &NetName,
+    walk: &mut Within<R>,
+) -> Result<BTreeSet<Name>, AllocError>
+    ensures { IfOk result (λ texts. texts.keys ≡ set_of (filter_map (spec.entity_in net.now) walk.old)) }
+{
     let mut texts = BTreeSet::new(alloc);
-    for row in rows_in(rows, Span::Props(net.clone()?)) {
+    while let Some(row) = walk.next() {
         if let Some(text) = entity_in(alloc, net, row)? {
             texts.insert(text)?;
         }

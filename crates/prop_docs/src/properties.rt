@@ -1,9 +1,11 @@
 //! The properties of one entity.
 ghost use Rattle.std.specs.Prelude.{◌≡◌, IfOk, OnOk, map};
+ghost use Rattle.std.specs.List.{filter_map};
 ghost use Rattle.std.specs.List.Sorted.{IsStrictlySortedBy};
 ghost use Rattle.serde_json.specs.Data.{Data};
 ghost use Rattle.json_tree.specs.Tree.{data_of};
 ghost use Rattle.alto_maps.specs.Shape.{group_object};
+ghost use Rattle.alto_rows.specs.declared.span.Span.TheVariants as span;
 ghost use Rattle.alto_rows.specs.Good.{AreGood};
 ghost use Rattle.alto_rows.specs.Order.{name_cmp};
 ghost use Rattle.prop_docs.specs.PropertyMap.{prop_face, value_data};
@@ -11,7 +13,7 @@ ghost use Rattle.prop_docs.specs.Properties as spec;
 
 use crate::entities::entity_named;
 use alto_names::{NetName, PropName};
-use alto_rows::{Entity, Key, RowStore, Span, Value, rows_in};
+use alto_rows::{Entity, Key, RowStore, Span, Value, Within, rows_in};
 use json_tree::{Members, Name, Tree};
 use std::alloc::{AllocError, Global};
 use std::marker::Model;
@@ -59,8 +61,35 @@ fn properties_owned<'a, R: RowStore>(
 ) -> Result<Vec<Property<'a>>, AllocError>
     ensures { IfOk result (λ properties. properties.items ≡ spec.props_of (R.rows rows.now) net.now entity) }
 {
+    let mut walk = rows_in(rows, props_span(net, entity)?);
+    let properties = properties_in(alloc, &mut walk);
+    drop(walk);
+    properties
+}
+
+/// The span of the properties of an entity. What is let go by a call, in one place, is cheaper to prove than what is
+/// dropped at each exit.
+pub(crate) fn props_span(net: &NetName, entity: Entity) -> Result<Span, AllocError>
+    ensures { IfOk result (λ props. props ≡ span.PropsOf net.now entity) }
+{
+    match net.clone() {
+        Ok(net) => Ok(Span::PropsOf(net, entity)),
+        Err(fault) => {
+            drop(entity);
+            Err(fault)
+        }
+    }
+}
+
+/// The properties that the rows of a walk give.
+fn properties_in<'a, R: RowStore>(
+    alloc: Global,
+    walk: &mut Within<'a, R>,
+) -> Result<Vec<Property<'a>>, AllocError>
+    ensures { IfOk result (λ properties. properties.items ≡ filter_map spec.prop_in walk.old) }
+{
     let mut properties = Vec::new(alloc);
-    for row in rows_in(rows, Span::PropsOf(net.clone()?, entity)) {
+    while let Some(row) = walk.next() {
         if let Some(property) = property_in(row) {
             properties.push(property)?;
         }

@@ -1,4 +1,5 @@
-ghost use Rattle.std.specs.Prelude.{◌≡◌, [], ◌∷◌, codes, nat_lt, IfOk, MatchOption, option_map};
+ghost use Rattle.std.specs.Prelude.{◌≡◌, [], ◌∷◌, codes, nat_lt, IfOk, MatchOption};
+ghost use Rattle.std.specs.Prelude.{option_copied, option_map};
 ghost use Rattle.json_tree.specs.Document.{object_of};
 ghost use Rattle.json_tree.specs.Tree.{data_of};
 ghost use Rattle.alto_maps.specs.Shape.{member_in, section_object, stands};
@@ -10,11 +11,11 @@ ghost use Rattle.alto_rows.specs.declared.key.Key.TheVariants as key;
 ghost use Rattle.prop_docs.specs.PropertyMap.{prop_face, prop_meta, value_data};
 
 use crate::entities::{entities_of, entity_named, group_names};
-use crate::properties::{group, value_tree};
+use crate::properties::{group, props_span, value_tree};
 use crate::writing::{write_group, write_groups, write_meta};
 use alto_maps::{MapSource, Walked};
 use alto_names::{NameFault, NetName, PropName};
-use alto_rows::{Entity, Key, RowStore, Span};
+use alto_rows::{Entity, Key, RowStore, Span, Value};
 use doc_pieces::Grouped;
 use json::Writer;
 use json_tree::{Members, Name, Tree};
@@ -159,7 +160,7 @@ fn has_group<R: RowStore>(
     ensures { IfOk result (λ standing. standing ≡ stands (prop_face net.now (R.rows rows.now)) text.now) }
 {
     match entity_named(alloc, net, text)? {
-        Some(entity) => Ok(has_row_in(rows, Span::PropsOf(net.clone()?, entity))),
+        Some(entity) => Ok(has_row_in(rows, props_span(net, entity)?)),
         None => Ok(false),
     }
 }
@@ -168,7 +169,10 @@ fn has_group<R: RowStore>(
 fn has_row_in<R: RowStore>(rows: &R, span: Span) -> bool
     ensures { result ≡ nat_lt 0 (count_in (R.rows rows.now) span) }
 {
-    rows.count_in(&span) > 0
+    let count = rows.count_in(&span);
+    // what is let go by a call is cheaper to prove than what is dropped in place, variant by variant
+    drop(span);
+    count > 0
 }
 
 /// The value of a property of the entity of this text, `None` exactly where it has no such property. One search.
@@ -201,9 +205,29 @@ fn value_owned<R: RowStore>(
     ensures { IfOk result (λ value. option_map data_of value
         ≡ option_map value_data (value_of (R.rows rows.now) (key.Prop net.now entity name.now))) }
 {
-    match read_name(alloc, name)? {
-        Some(name) => value_at(alloc, rows, Key::Prop(net.clone()?, entity, name)),
-        None => Ok(None),
+    match read_name(alloc, name) {
+        Ok(Some(name)) => value_at(alloc, rows, prop_key(net, entity, name)?),
+        Ok(None) => {
+            drop(entity);
+            Ok(None)
+        }
+        Err(fault) => {
+            drop(entity);
+            Err(fault)
+        }
+    }
+}
+
+/// The key of a property of an entity.
+fn prop_key(net: &NetName, entity: Entity, name: PropName) -> Result<Key, AllocError>
+    ensures { IfOk result (λ made. made ≡ key.Prop net.now entity name) }
+{
+    match net.clone() {
+        Ok(net) => Ok(Key::Prop(net, entity, name)),
+        Err(fault) => {
+            drop(entity);
+            Err(fault)
+        }
     }
 }
 
@@ -222,7 +246,16 @@ fn read_name(alloc: Global, name: &Name) -> Result<Option<PropName>, AllocError>
 fn value_at<R: RowStore>(alloc: Global, rows: &R, key: Key) -> Result<Option<Tree>, AllocError>
     ensures { IfOk result (λ value. option_map data_of value ≡ option_map value_data (value_of (R.rows rows.now) key)) }
 {
-    match rows.get(&key) {
+    let value = shown(alloc, rows.get(&key));
+    drop(key);
+    value
+}
+
+/// A value as JSON, if there is one.
+fn shown(alloc: Global, value: Option<&Value>) -> Result<Option<Tree>, AllocError>
+    ensures { IfOk result (λ found. option_map data_of found ≡ option_map value_data (option_copied value.entry)) }
+{
+    match value {
         Some(value) => Ok(Some(value_tree(alloc, value)?)),
         None => Ok(None),
     }

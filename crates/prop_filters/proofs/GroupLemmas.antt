@@ -1,8 +1,8 @@
 -- The members and the groups of a filtered map, as loops put them.
-use Rattle.std.proofs.Common.{◌≡◌, refl, ap}
+use Rattle.std.proofs.Common.{◌≡◌, refl}
 use Rattle.std.specs.Prelude.{Bool, true, false, cond, List, [], ◌∷◌, Option, Some, None, fold, codes}
 use Rattle.serde_json.specs.Data.{Data, Members, no_members, object}
-use Rattle.json_tree.specs.Document.{with_member, members_of, object_of}
+use Rattle.json_tree.specs.Document.{with_member, object_of}
 use Rattle.alto_rows.specs.Rows.{Rows}
 use Rattle.alto_maps.specs.Shape.{Name}
 use Rattle.prop_docs.specs.Ask.{PropAskData}

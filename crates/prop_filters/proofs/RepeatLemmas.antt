@@ -5,7 +5,7 @@ use Rattle.std.specs.Prelude.{true, false, List, [], ◌∷◌, ◌++◌, Option
 use Rattle.std.specs.BTreeSet.{insert_key}
 use Rattle.std.specs.Cmp.Lexicographic.{slice_cmp}
 use Rattle.std.specs.List.{filter_map}
-use Rattle.std.specs.Ordering.{nat_cmp, match_ordering}
+use Rattle.std.specs.Ordering.{nat_cmp}
 use Rattle.std.specs.declared.cmp.Ordering.{Ordering}
 use Rattle.std.specs.declared.cmp.Ordering.TheVariants.{Less, Equal, Greater}
 use Rattle.std.proofs.lemmas.List.Sums.{fold-append}
@@ -135,8 +135,6 @@ with_names names more = fold (λ set name. insert_key (slice_cmp nat_cmp) set na
 
 -- the names of all rows
 pub names_in_span : (net : Name) (rows : Rows)
-    → with_names [] (filter_map (name_given net) (rows_in rows (span.Props net)))
+    → set_of (filter_map (name_given net) (rows_in rows (span.Props net)))
     ≡ set_of (filter_map (name_given net) rows)
-unfolding set_of
-names_in_span net rows = ap (with_names [])
-    (sym (filter_map-rows_in (name_given net) (span.Props net) (no_name net) rows))
+names_in_span net rows = ap set_of (sym (filter_map-rows_in (name_given net) (span.Props net) (no_name net) rows))

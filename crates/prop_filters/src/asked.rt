@@ -8,7 +8,7 @@ ghost use Rattle.prop_filters.specs.Filter.{asked_entities, asked_names, entity_
 ghost use Rattle.prop_filters.specs.Repeats.{GiveTheSame};
 
 use alto_names::NetName;
-use alto_rows::{Entity, Key, RowStore, Span, Value, rows_in};
+use alto_rows::{Entity, Key, RowStore, Span, Value, Within, rows_in};
 use json_tree::Name;
 use std::alloc::{AllocError, Global};
 use std::collections::BTreeSet;
@@ -21,8 +21,23 @@ pub(crate) fn all_entities<R: RowStore>(
 ) -> Result<Vec<Entity>, AllocError>
     ensures { IfOk result (λ entities. GiveTheSame entities.items (asked_entities (R.rows rows.now) net.now [])) }
 {
+    // a walk that is let go by one call is cheaper to prove than one that a loop drops at each exit
+    let mut walk = rows_in(rows, Span::Props(net.clone()?));
+    let entities = entities_in(alloc, net, &mut walk);
+    drop(walk);
+    entities
+}
+
+/// The entities of a network to which the rows of a walk give properties, each once.
+fn entities_in<R: RowStore>(
+    alloc: Global,
+    net: &NetName,
+    walk: &mut Within<R>,
+) -> Result<Vec<Entity>, AllocError>
+    ensures { IfOk result (λ entities. GiveTheSame entities.items (filter_map (entity_given net.now) walk.old)) }
+{
     let mut entities = Vec::new(alloc);
-    for row in rows_in(rows, Span::Props(net.clone()?)) {
+    while let Some(row) = walk.next() {
         add_entity(&mut entities, net, row)?;
     }
     Ok(entities)
@@ -98,8 +113,23 @@ fn names_given<R: RowStore>(
 ) -> Result<BTreeSet<Name>, AllocError>
     ensures { IfOk result (λ names. names.keys ≡ set_of (filter_map (name_given net.now) (R.rows rows.now))) }
 {
+    let mut walk = rows_in(rows, Span::Props(net.clone()?));
+    let names = names_in(alloc, net, &mut walk);
+    drop(walk);
+    names
+}
+
+/// The names of the properties of a network that the rows of a walk give.
+#[tactic(auto, unfolding(alto_maps::specs::Places::set_of))]
+fn names_in<R: RowStore>(
+    alloc: Global,
+    net: &NetName,
+    walk: &mut Within<R>,
+) -> Result<BTreeSet<Name>, AllocError>
+    ensures { IfOk result (λ names. names.keys ≡ set_of (filter_map (name_given net.now) walk.old)) }
+{
     let mut names = BTreeSet::new(alloc);
-    for row in rows_in(rows, Span::Props(net.clone()?)) {
+    while let Some(row) = walk.next() {
         if let Some(name) = name_given(alloc, net, row)? {
             names.insert(name)?;
         }

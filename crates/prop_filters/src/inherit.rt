@@ -1,6 +1,8 @@
 //! The property of a block, found by its keys.
 ghost use Rattle.std.specs.Prelude.{◌≡◌, IfOk, option_copied};
 ghost use Rattle.alto_rows.specs.Good.{AreGood};
+ghost use Rattle.alto_rows.specs.declared.entity.Entity.TheVariants as entities;
+ghost use Rattle.alto_rows.specs.declared.key.Key.TheVariants as key;
 ghost use Rattle.prop_filters.specs.Inherit as spec;
 
 use crate::cut::cut;
@@ -41,6 +43,18 @@ fn value_at<'r, R: RowStore>(
     ensures { IfOk result (λ found. option_copied found
         ≡ spec.value_at (R.rows rows.now) net.now block.now name.now) }
 {
-    let entity = Entity::Block(PackedPrefix::new(block));
-    Ok(rows.get(&Key::Prop(net.clone()?, entity, name.clone()?)))
+    let key = block_key(net, block, name)?;
+    let value = rows.get(&key);
+    // a key that is let go by a call is cheaper to prove than one that is dropped in place, variant by variant
+    drop(key);
+    Ok(value)
+}
+
+/// The key of a property of a block.
+fn block_key(net: &NetName, block: &Prefix, name: &PropName) -> Result<Key, AllocError>
+    ensures { IfOk result (λ made. made ≡ key.Prop net.now (entities.Block block.now) name.now) }
+{
+    let net = net.clone()?;
+    let name = name.clone()?;
+    Ok(Key::Prop(net, Entity::Block(PackedPrefix::new(block)), name))
 }

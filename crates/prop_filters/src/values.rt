@@ -58,11 +58,23 @@ fn property_of_pid<R: RowStore>(
 {
     match read_name(alloc, name)? {
         Some(name) => {
-            let entity = Entity::Pid(pid.clone()?);
-            shown(alloc, rows.get(&Key::Prop(net.clone()?, entity, name)))
+            let key = pid_key(net, pid, name)?;
+            let value = shown(alloc, rows.get(&key));
+            // a key that is let go by a call is cheaper to prove than one that is dropped in place, variant by variant
+            drop(key);
+            value
         }
         None => Ok(None),
     }
+}
+
+/// The key of a property of a PID.
+fn pid_key(net: &NetName, pid: &PidName, name: PropName) -> Result<Key, AllocError>
+    ensures { IfOk result (λ made. made ≡ key.Prop net.now (entities.Pid pid.now) name) }
+{
+    let net = net.clone()?;
+    let pid = pid.clone()?;
+    Ok(Key::Prop(net, Entity::Pid(pid), name))
 }
 
 /// The value of a property of a block.

@@ -1,7 +1,8 @@
-use Rattle.std.proofs.Common.{◌≡◌, ap, ◌∙◌}
+use Rattle.std.proofs.Common.{◌∙◌}
 use Rattle.alto_rows.specs.declared.span.Span.TheVariants as span
 use Rattle.alto_rows.specs.Span.{rows_in}
-use Rattle.cost_docs.proofs.SourceLemmas.{given_where, has_rows, standing}
+use Rattle.cost_docs.specs.Costs.{has_rows}
+use Rattle.cost_docs.proofs.SourceLemmas.{standing}
 use Rattle.cost_docs.proofs.source.has_cost_from.Goals as goal
 
 pub returns : goal.returns
@@ -9,10 +10,7 @@ returns g c =
     let net = c.args.net.now in
     let metric = c.args.metric.now in
     let rows = g.R.RowStore.rows c.args.rows.now in
-    let walk : c.rows_in.result ≡ rows_in rows (span.CostsFrom net metric c.args.source) =
-    c.rows_in.ensures
-    ∙ (λ i. rows_in rows (span.CostsFrom (c.in_ok-clone.ensures.cases i) (c.in_ok-clone-2.ensures.cases i)
-    c.args.source)) in
-    c.is_some.ensures
-    ∙ (given_where c.rows_in.result c.next.new.self c.next.result c.next.ensures.steps
-    ∙ (ap has_rows walk ∙ standing net metric c.args.source rows))
+    c.has_rows.ensures
+    ∙ ((λ i. has_rows (rows_in rows (span.CostsFrom (c.in_ok-clone.ensures.cases i) (c.in_ok-clone-2.ensures.cases i)
+    c.args.source)))
+    ∙ standing net metric c.args.source rows)

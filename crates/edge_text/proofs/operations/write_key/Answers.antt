@@ -1,6 +1,6 @@
-use Rattle.std.proofs.Common.{◌≡◌, ◌++◌, [], List, Option, rules, sym, subst, map, ap, ◌∙◌, is_some}
+use Rattle.std.proofs.Common.{◌≡◌, ◌++◌, List, rules, sym, subst, map, ap, ◌∙◌, is_some}
 use Rattle.std.proofs.lemmas.Result.{on_ok_weaker}
-use Rattle.std.specs.Prelude.{codes, true, false, Some, None, option_map}
+use Rattle.std.specs.Prelude.{codes, true, false, Some, option_map}
 use Rattle.json.specs.Token.{Token}
 use Rattle.json_patch.specs.Operations.{Operation}
 use Rattle.alto_rows.specs.Order.{same_name}
@@ -9,7 +9,7 @@ use Rattle.alto_maps.specs.OperationForm.{under}
 use Rattle.alto_rows.specs.Costs.{cost_of, number_at}
 use Rattle.cost_docs.specs.CostMap.{cost_face}
 use Rattle.cost_docs.specs.Writing.{AddsTokens}
-use Rattle.edge_text.specs.Operations.{are_both, both_standing, cost_gone, known_of, on_cost, on_pair, on_whole}
+use Rattle.edge_text.specs.Operations.{are_both, both_standing, known_of, on_cost, on_pair, on_whole}
 use Rattle.edge_text.specs.Operations.{tokens_of}
 use Rattle.edge_text.specs.Pairs.{pair_in}
 use Rattle.edge_text.proofs.OperationLemmas.{under_more}

@@ -1,20 +1,16 @@
-use Rattle.std.proofs.Common.{◌≡◌, ap, ◌∙◌}
-use Rattle.std.specs.List.{filter_map}
-use Rattle.alto_rows.specs.declared.span.Span.TheVariants as span
-use Rattle.alto_rows.specs.Span.{rows_in}
+use Rattle.std.proofs.Common.{List, ap, ◌∙◌, map}
+use Rattle.std.proofs.lemmas.Result.{IfOk-weaker}
+use Rattle.json_tree.specs.Document.{object_of}
+use Rattle.alto_maps.specs.Shape.{Name}
 use Rattle.net_docs.specs.Filter.{asked_group}
-use Rattle.net_docs.specs.NetworkMap.{pids_of}
-use Rattle.net_docs.specs.Prefixes.{pid_in}
-use Rattle.net_docs.proofs.PidLemmas.{groups_of_all}
-use Rattle.net_docs.proofs.SpanLemmas.{pids_in_span}
 use Rattle.net_docs.proofs.filter.all_groups.Goals as goal
 
-pub loop-row-init : goal.loop-row-init
-loop-row-init g c =
+pub returns : goal.returns
+returns g c =
     let net = c.args.net.now in
     let rows = g.R.RowStore.rows c.args.rows.now in
-    let walk : filter_map pid_in c.into_iter-row-iterator.result ≡ pids_of rows net =
-    ap (filter_map pid_in) (c.into_iter-row-iterator.ensures.into_iter_gives
-    ∙ (c.rows_in-row-items.ensures ∙ ap (λ of. rows_in rows (span.Pids of)) c.in_ok-clone.ensures.cases))
-    ∙ pids_in_span rows net in
-    rw (c.new-groups.ensures, walk) (groups_of_all (asked_group rows net c.args.families.now) (pids_of rows net))
+    IfOk-weaker c.groups_of.result _ _
+    (λ tree is. is ∙ ap (λ (pids : List Name).
+    object_of (map (λ pid. (pid, asked_group rows net c.args.families.now pid)) pids))
+    (c.deref.ensures.value ∙ c.in_ok-pids.ensures))
+    c.groups_of.ensures

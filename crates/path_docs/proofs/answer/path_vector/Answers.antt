@@ -1,4 +1,4 @@
-use Rattle.std.proofs.Common.{◌∙◌, refl}
+use Rattle.std.proofs.Common.{◌∙◌}
 use Rattle.path_docs.proofs.AneLemmas.{properties_from}
 use Rattle.path_docs.proofs.ShownLemmas.{costs_from}
 use Rattle.path_docs.proofs.answer.path_vector.Goals as goal

@@ -1,14 +1,18 @@
 use Rattle.std.proofs.Common.{◌≡◌, ◌∙◌, ap}
+use Rattle.std.proofs.lemmas.Result.{IfOk-weaker}
+use Rattle.std.specs.List.{filter_map}
 use Rattle.alto_rows.specs.declared.span.Span.TheVariants as span
 use Rattle.alto_rows.specs.Span.{rows_in}
+use Rattle.net_docs.specs.Prefixes.{pid_in}
 use Rattle.net_docs.proofs.SpanLemmas.{pids_in_span}
 use Rattle.path_docs.proofs.found.pids_of.Goals as goal
 
-pub loop-row-init : goal.loop-row-init
-loop-row-init g c =
+pub returns : goal.returns
+returns g c =
     let net = c.args.net.now in
     let rows = g.R.RowStore.rows c.args.rows.now in
-    let walk : c.into_iter-row-iterator.result ≡ rows_in rows (span.Pids net) =
-    c.into_iter-row-iterator.ensures.into_iter_gives
-    ∙ (c.rows_in-row-items.ensures ∙ ap (λ of. rows_in rows (span.Pids of)) c.in_ok-clone.ensures.cases) in
-    rw (c.new-pids.ensures.items, walk) (pids_in_span rows net)
+    let walk : c.rows_in-declared.result ≡ rows_in rows (span.Pids net) =
+    c.rows_in-declared.ensures ∙ ap (λ of. rows_in rows (span.Pids of)) c.in_ok-clone.ensures.cases in
+    IfOk-weaker c.pids_walked-pids.result _ _
+    (λ pids told. told ∙ (ap (filter_map pid_in) walk ∙ pids_in_span rows net))
+    c.pids_walked-pids.ensures

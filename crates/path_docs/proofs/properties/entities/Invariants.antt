@@ -1,4 +1,4 @@
-use Rattle.std.proofs.Common.{◌≡◌, drop, map, List}
+use Rattle.std.proofs.Common.{◌≡◌, drop, map}
 use Rattle.serde_json.specs.Data.{Data}
 use Rattle.json_tree.specs.Document.{members_of}
 use Rattle.json_tree.specs.Members.{members_data}

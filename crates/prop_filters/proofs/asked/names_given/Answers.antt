@@ -1,14 +1,19 @@
 use Rattle.std.proofs.Common.{◌≡◌, ap, ◌∙◌}
+use Rattle.std.proofs.lemmas.Result.{IfOk-weaker}
+use Rattle.std.specs.List.{filter_map}
 use Rattle.alto_rows.specs.declared.span.Span.TheVariants as span
 use Rattle.alto_rows.specs.Span.{rows_in}
+use Rattle.alto_maps.specs.Places.{set_of}
+use Rattle.prop_filters.specs.Filter.{name_given}
 use Rattle.prop_filters.proofs.RepeatLemmas.{names_in_span}
 use Rattle.prop_filters.proofs.asked.names_given.Goals as goal
 
-pub loop-row-init : goal.loop-row-init
-loop-row-init g c =
+pub returns : goal.returns
+returns g c =
     let net = c.args.net.now in
     let rows = g.R.RowStore.rows c.args.rows.now in
-    let walk : c.into_iter-row-iterator.result ≡ rows_in rows (span.Props net) =
-    c.into_iter-row-iterator.ensures.into_iter_gives
-    ∙ (c.rows_in-row-items.ensures ∙ ap (λ of. rows_in rows (span.Props of)) c.in_ok-clone.ensures.cases) in
-    rw (c.new-names.ensures.empty, walk) (names_in_span net rows)
+    let walk : c.rows_in-walk.result ≡ rows_in rows (span.Props net) =
+    c.rows_in-walk.ensures ∙ ap (λ of. rows_in rows (span.Props of)) c.in_ok-clone.ensures.cases in
+    IfOk-weaker c.names_in-names.result _ _
+    (λ names found. found ∙ (ap (λ left. set_of (filter_map (name_given net) left)) walk ∙ names_in_span net rows))
+    c.names_in-names.ensures

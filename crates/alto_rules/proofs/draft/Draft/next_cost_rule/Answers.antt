@@ -17,7 +17,7 @@ returns-then-not-branch g c =
 
 pub returns : goal.returns
 returns g c =
-    c.lacking.ensures
+    c.lacking-rule.ensures
     ∙ (ap (λ (k : Key). first_broken ((rule.G12, lacks (drafted_rows c.args.self.now) k) ∷ [])) c.in_ok-key.ensures
     ∙ next_cost_lacks (drafted_rows c.args.self.now) c.args.net.now c.args.metric.now c.args.source.now
     c.args.destination.now

@@ -12,8 +12,8 @@ returns-in-Some g c =
     rw (← by_counted_cmp (λ R. Some c.in-Some.count.now ≡ map.get R c.args.self.now.counts c.args.counted.now)
     c.in-Some.ensures.value) refl
 
-pub returns-in_ok-span_of-in-None : goal.returns-in_ok-span_of-in-None
-returns-in_ok-span_of-in-None g c =
+pub returns-in_ok-span-in-None : goal.returns-in_ok-span-in-None
+returns-in_ok-span-in-None g c =
     rw (← by_counted_cmp (λ R. None ≡ map.get R c.args.self.now.counts c.args.counted.now) c.in-None.ensures.value)
-    (c.count_in.ensures.count ∙ ap (λ (s : Span). count_in (g.R.RowStore.rows c.args.rows.now) s)
-    c.in_ok-span_of-in-None.ensures)
+    (c.count_in-count.ensures.count ∙ ap (λ (s : Span). count_in (g.R.RowStore.rows c.args.rows.now) s)
+    c.in_ok-span-in-None.ensures)

@@ -1,5 +1,5 @@
 -- The name at the place is the destination's, so what is read there is its cost.
-use Rattle.std.proofs.Common.{◌≡◌, ◌∙◌, Some, ap, length, refl, rules, slice_get, sym, true}
+use Rattle.std.proofs.Common.{◌≡◌, ◌∙◌, Some, ap, length, refl, slice_get, sym, true}
 use Rattle.std.proofs.lemmas.Option.{slice_get_read}
 use Rattle.std.specs.Arc.{arc_value}
 use Rattle.std.specs.Prelude.{zip}

@@ -1,8 +1,6 @@
-use Rattle.std.proofs.Common.{◌≡◌, ◌∙◌, length, ap, sym}
-use Rattle.std.specs.Arc.{arc_value}
+use Rattle.std.proofs.Common.{◌≡◌, length}
 use Rattle.std.specs.List.Sorted.{IsStrictlySortedBy}
 use Rattle.alto_rows.specs.Order.{name_cmp}
-use Rattle.cost_tables.specs.Tables.{costs_from}
 use Rattle.cost_tables.proofs.FromLemmas.{rise-costs_from}
 use Rattle.cost_tables.proofs.PairLemmas.{keys_of-zip}
 use Rattle.cost_tables.proofs.from_source.FromSource.of.Goals as goal
