@@ -23,6 +23,8 @@ pub trait Kind {
 
     ghost has_room: { 0 < LONGEST };
 
+    ghost has_bound: { LONGEST ≤ 64 };
+
     ghost has_least: { alphabet LEAST ≡ true };
 
     ghost none_below: { (byte : ℕ) → alphabet byte ≡ true → LEAST ≤ byte };
@@ -45,6 +47,8 @@ impl Kind for NetKind {
     const LEAST: u8 = b'-';
 
     ghost has_room = { Prim.search rules };
+
+    ghost has_bound = { Prim.search rules };
 
     ghost has_least = { refl };
 
@@ -73,6 +77,8 @@ impl Kind for PidKind {
 
     ghost has_room = { Prim.search rules };
 
+    ghost has_bound = { Prim.search rules };
+
     ghost has_least = { refl };
 
     ghost none_below = { λ byte h. Prim.grind (arith, nat_tests) };
@@ -99,6 +105,8 @@ impl Kind for MetricKind {
     const LEAST: u8 = b'-';
 
     ghost has_room = { Prim.search rules };
+
+    ghost has_bound = { Prim.search rules };
 
     ghost has_least = { refl };
 
@@ -127,6 +135,8 @@ impl Kind for PropKind {
 
     ghost has_room = { Prim.search rules };
 
+    ghost has_bound = { Prim.search rules };
+
     ghost has_least = { refl };
 
     ghost none_below = { λ byte h. Prim.grind (arith, nat_tests) };
@@ -153,6 +163,8 @@ impl Kind for AneKind {
     const LEAST: u8 = b'-';
 
     ghost has_room = { Prim.search rules };
+
+    ghost has_bound = { Prim.search rules };
 
     ghost has_least = { refl };
 
@@ -181,6 +193,8 @@ impl Kind for ImportKind {
 
     ghost has_room = { Prim.search rules };
 
+    ghost has_bound = { Prim.search rules };
+
     ghost has_least = { refl };
 
     ghost none_below = { λ byte h. Prim.grind (arith, nat_tests) };
@@ -207,6 +221,8 @@ impl Kind for EpochKind {
     const LEAST: u8 = b'0';
 
     ghost has_room = { Prim.search rules };
+
+    ghost has_bound = { Prim.search rules };
 
     ghost has_least = { refl };
 

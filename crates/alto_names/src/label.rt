@@ -1,18 +1,23 @@
-ghost use Rattle.std.specs.Prelude.{◌≡◌, ◌≢◌, ℕ, false, List, [], ◌∷◌, Some, Ok, IfOk, IfErr, nat_eq};
+ghost use Rattle.std.specs.Prelude.{◌≡◌, ◌≢◌, ◌≤◌, ℕ, false, List, [], ◌∷◌, Some, Ok, IfOk, IfErr, length, nat_eq};
 ghost use Rattle.std.specs.Cmp.Lexicographic.{pointwise, slice_cmp, nat_list_eq_equiv, nat_list_cmp_total, texts_ties};
 ghost use Rattle.std.specs.Cmp.Lexicographic.{texts_po};
 ghost use Rattle.std.specs.Cmp.{partial_equiv_from_equiv};
 ghost use Rattle.std.proofs.Common.{rules};
 ghost use Rattle.std.specs.Ordering.{nat_cmp, is_gt};
+ghost use Rattle.std.specs.Arc.{arc_value};
 ghost use Rattle.alto_names.specs.Name.{named, first_bad};
 
 use crate::kind::Kind;
+use arrayvec::ArrayString;
 use std::alloc::{AllocError, Global};
 use std::cmp::Ordering;
 use std::error::Error;
 use std::marker::{Model, PhantomData};
-use std::sync::ArcStr;
+use std::sync::Arc;
 use std::{fmt, str};
+
+/// The greatest length of a name of any kind, in bytes.
+const ROOM: usize = 64;
 
 /// Why bytes are no name, in the order of the tests.
 #[derive(Clone, Copy, Debug, PartialEq, Eq)]
@@ -61,26 +66,26 @@ impl Error for NameFault {}
 
 /// A name of one kind. A contract sees its bytes.
 ///
-/// A name is a pointer of 8 bytes. Its clones share what it points to: a block of 32 bytes, which counts the owners,
-/// and the text, as long as it is. Reading a name takes this memory anew, also for a text that was read before. A clone
+/// A name is a pointer of 8 bytes. Its clones share what it points to: one block, which counts the owners and has room
+/// for the longest text of any kind. Reading a name takes a block anew, also for a text that was read before. A clone
 /// takes none and constant time, and is refused only at 2^63 owners.
 #[derive(Drop)]
 pub struct Label<K: Kind> {
-    text: ArcStr,
+    text: Arc<ArrayString<ROOM>>,
     kind: PhantomData<K>,
 }
 
 impl<K: Kind> Model for Label<K> {
     ghost use Rattle.std.specs.Prelude.{◌≡◌, List, ℕ, Ok};
-    ghost use Rattle.std.specs.Arc.{arc_str_bytes};
+    ghost use Rattle.std.specs.Arc.{arc_value};
     ghost use Rattle.alto_names.specs.Name.{named};
 
     ghost Value = { List ℕ };
 
-    ghost view = { λ label. arc_str_bytes label.text };
+    ghost view = { λ label. (arc_value label.text).bytes };
 
-    ghost invariant = { λ label.
-        named K.alphabet K.LONGEST (arc_str_bytes label.text) ≡ Ok (arc_str_bytes label.text) };
+    ghost invariant = { λ label. let bytes = (arc_value label.text).bytes in
+        named K.alphabet K.LONGEST bytes ≡ Ok bytes };
 }
 
 impl<K: Kind> Label<K> {
@@ -103,7 +108,7 @@ impl<K: Kind> Label<K> {
             unreachable!();
         };
         Ok(Label {
-            text: ArcStr::from_str(alloc, text)?,
+            text: shared(alloc, text)?,
             kind: PhantomData,
         })
     }
@@ -114,10 +119,10 @@ impl<K: Kind> Label<K> {
         ensures first { IfOk result (λ least. (name : List ℕ) → named K.alphabet K.LONGEST name ≡ Ok name
             → is_gt (slice_cmp nat_cmp least name) ≡ false) }
     {
-        let mut text = String::new(alloc);
-        text.push(char::from(K::LEAST))?;
+        let mut text = ArrayString::new();
+        text.push(char::from(K::LEAST));
         Ok(Label {
-            text: ArcStr::from_string(text)?,
+            text: Arc::new(alloc, text)?,
             kind: PhantomData,
         })
     }
@@ -215,6 +220,16 @@ impl<K: Kind> Ord for Label<K> {
     fn cmp(&self, other: &Self) -> Ordering {
         self.text.cmp(&other.text)
     }
+}
+
+/// A text in a block that owners share.
+fn shared(alloc: Global, text: &str) -> Result<Arc<ArrayString<ROOM>>, AllocError>
+    requires { length text.now ≤ 64 }
+    ensures { IfOk result (λ kept. (arc_value kept).bytes ≡ text.now) }
+{
+    let mut kept = ArrayString::new();
+    kept.push_str(text);
+    Ok(Arc::new(alloc, kept)?)
 }
 
 /// The place of the first byte that isn't in the kind's alphabet.
