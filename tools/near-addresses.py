@@ -1,7 +1,7 @@
 #!/usr/bin/env python3
-"""Writes crates/library_tests/src/near_addresses.rt: texts made from good addresses by dropping, doubling or replacing a character, and
-what Python's ipaddress says of each: the family and the number, or the length of the longest front that some ending makes an
-address."""
+"""Writes crates/text_tests/src/near_addresses.rt: texts made from good addresses by dropping, doubling or replacing a
+character, and what Python's ipaddress says of each: the family and the number, or the length of the longest front
+that some ending makes an address."""
 import ipaddress
 
 GOOD = """192.0.2.1 0.0.0.0 255.255.255.255 10.20.30.40 2001:db8::1:0:0:1 :: ::1 1:: 1:2:3:4:5:6:7:8 1:2:3:4:5:6:7::

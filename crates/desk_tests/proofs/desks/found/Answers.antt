@@ -2,7 +2,7 @@ use Rattle.std.proofs.Common.{◌≡◌, rules, sym, subst}
 use Rattle.alto_rows.specs.Good.{AreGood}
 use Rattle.alto_book.specs.Book.{rows_of}
 use Rattle.alto_book.proofs.StateLemmas.{good_rows}
-use Rattle.library_tests.proofs.desks.found.Goals as goal
+use Rattle.desk_tests.proofs.desks.found.Goals as goal
 
 pub find_resource-requires : goal.find_resource-requires
 find_resource-requires c =
