@@ -3,24 +3,27 @@
 
 benchmark.py [--beside "PROGRAM WORD.."] [--rounds N] [--only PART] [PROGRAM]
 
-PROGRAM is the one that ./alto keeps unless it is given. The other is, for example, the program of an earlier commit; further words
-of it are added to those that it is run with. It has three parts:
+PROGRAM is the one that ./alto keeps unless it is given. The other is, for example, the program of an earlier commit;
+further words of it are added to those that it is run with. It has three parts:
 
-workloads: each begins a store in a new folder, starts the program as `pipe x` there, writes the set-up and waits for its replies. Then
-the measured requests are written, and timed from the first byte written to the last one read: once without a clock, when the replies
-are kept and have to be the same of both programs but for moments, and then N times, 5 unless given, the programs in turn. The best
-time counts. Each try of imports has a new store; the other tries of a program are made on one, and there are more of them where they
-are short. A ratio is PROGRAM's time by that of the other program.
+workloads: each begins a store in a new folder, starts the program as `pipe x` there, writes the set-up and waits for
+its replies. Then the measured requests are written, and timed from the first byte written to the last one read: once
+without a clock, when the replies are kept and have to be the same of both programs but for moments, and then N times, 5
+unless given, the programs in turn. The best time counts. Each try of imports has a new store; the other tries of a
+program are made on one, and there are more of them where they are short. A ratio is PROGRAM's time by that of the other
+program.
 
-growth: how far an import of one cost depends on the book: the time of one of 500 imports into each of three books, with its ratio
-to that into the smallest (the versions by which the book came about, of 16,000 costs each, are forgotten before the clock starts), and
-the memory of the process (VmRSS) with the largest book, and after 32 versions more. Where gdb is there, also the bytes that are
-allocated: of the store with its imports, and of one whose base has taken them in; and of the latter's rows, with and without the texts
-of its maps. What else it has is the SQL library's: pages of the file, and a buffer that reading it left.
+growth: how far an import of one cost depends on the book: the time of one of 500 imports into each of three books, with
+its ratio to that into the smallest (the versions by which the book came about, of 16,000 costs each, are forgotten
+before the clock starts), and the memory of the process (VmRSS) with the largest book, and after 32 versions more. Where
+gdb is there, also the bytes that are allocated: of the store with its imports, and of one whose base has taken them in;
+and of the latter's rows, with and without the texts of its maps. What else it has is the SQL library's: pages of the
+file, and a buffer that reading it left.
 
-opening: the seconds from the program's start to its first reply, over stores of an eighth, a quarter and a half of the imports and rows
-that a store keeps, and of all of them; the processor's seconds, which other work on the machine hardly changes; and the most memory that
-it took (VmHWM). Where the time and the memory of a row stay alike, opening grows straight.
+opening: the seconds from the program's start to its first reply, over stores of an eighth, a quarter and a half of the
+imports and rows that a store keeps, and of all of them; the processor's seconds, which other work on the machine hardly
+changes; and the most memory that it took (VmHWM). Where the time and the memory of a row stay alike, opening grows
+straight.
 """
 import argparse
 import collections

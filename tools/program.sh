@@ -1,12 +1,13 @@
-# Where the proved program is kept, and how it is built. ./alto and .ci/run read this file; they set $top to the repository's
-# top folder first.
+# Where the proved program is kept, and how it is built. ./alto and .ci/run read this file; they set $top to the
+# repository's top folder first.
 #
-# A program that was built is the file out/alto/SUM. SUM is the checksum of the toolchain's name and of all that the program is
-# made from, so that a file of that name is always the program of the sources as they stand.
+# A program that was built is the file out/alto/SUM. SUM is the checksum of the toolchain's name and of all that the
+# program is made from, so that a file of that name is always the program of the sources as they stand.
 
 kept=$top/out/alto
 
-# Prints the toolchain's one-line name, as `rt version` does. The file that holds it is read here, since that is quicker.
+# Prints the toolchain's one-line name, as `rt version` does. The file that holds it is read here, since that is
+# quicker.
 toolchain() {
     rt=$(command -v rt) && rt=$(readlink -f -- "$rt") || return
     cat -- "${rt%/*}/../KIT-ID" 2>/dev/null || rt version
@@ -33,8 +34,8 @@ keep_program() {
     done
 }
 
-# Proves and builds the program of the sources as they stand, where another run hasn't done so meanwhile. All that it says goes
-# to standard error, and stands in out/alto/log.
+# Proves and builds the program of the sources as they stand, where another run hasn't done so meanwhile. All that it
+# says goes to standard error, and stands in out/alto/log.
 build_program() (
     say() { printf 'alto: %s\n' "$1" >&2; }
     exec </dev/null
@@ -44,9 +45,9 @@ build_program() (
     name=$(toolchain) || { say "the command rt of the Rattle toolchain isn't in PATH"; exit 1; }
     say "proving and building the program with $name; from nothing this takes minutes"
 
-    # The libraries come first, side by side, and rt run builds the program over them. It runs what it has built: here with no
-    # words, which the program refuses, so its output and its status are passed over. Only the line that rt prints before that
-    # says that all is proved and built.
+    # The libraries come first, side by side, and rt run builds the program over them. It runs what it has built: here
+    # with no words, which the program refuses, so its output and its status are passed over. Only the line that rt
+    # prints before that says that all is proved and built.
     (
         unset RT_BACKEND
         cd -- "$top/crates/alto_cli" && "$top/tools/build-libraries" . && rt run
