@@ -4,4 +4,5 @@ pub mod PairLemmas
 pub mod SourceLemmas
 pub mod RenewedLemmas
 pub mod TableLemmas
+pub mod ListLemmas
 pub mod TablesLemmas

@@ -1,8 +1,10 @@
 -- Names and costs in two lists of one length, told as a list of pairs.
 use Rattle.std.proofs.Common.{◌≡◌, ℕ, zero, suc, ◌<◌, refl, ap, sym, ◌∙◌, arith}
 use Rattle.std.proofs.lemmas.Bool.{and_parts}
+use Rattle.std.proofs.lemmas.List.{map-append}
 use Rattle.std.proofs.Math.ListN.{get_or-map}
 use Rattle.std.proofs.lemmas.Map.Entries.{length-keys_of}
+use Rattle.std.proofs.lemmas.Option.{slice_get_past}
 use Rattle.std.specs.Cmp.Lexicographic.{pointwise}
 use Rattle.std.specs.Prelude.{true, List, [], ◌∷◌, ◌++◌, Option, Some, None, Result, Ok, Err, length}
 use Rattle.std.specs.Prelude.{option_map, slice_get, zip}
@@ -15,8 +17,7 @@ use Rattle.std.specs.declared.cmp.Ordering.{Ordering}
 use Rattle.std.specs.declared.cmp.Ordering.TheVariants.{Less, Equal, Greater}
 use Rattle.alto_rows.specs.Order.{name_cmp, same_name}
 use Rattle.alto_rows.proofs.TouchesLemmas.{one_name}
-use Rattle.cost_tables.specs.declared.places.Guess.{Guess}
-use Rattle.cost_tables.specs.Guesses.{IsGuess}
+use Rattle.cost_tables.specs.Lists.{ArePlaces, IsPlace}
 use Rattle.cost_tables.specs.Tables.{Costs, Name, cost_to}
 use Rattle.cost_tables.proofs.FromLemmas.{cost_to-place}
 use Rattle.cost_tables.proofs.SearchLemmas.{found, lookup_from_search}
@@ -123,17 +124,7 @@ cost_searched names costs told dst r is even rise within searched =
     (lookup_from_search (zip names costs) dst r (rw keys rise) (rw count within)
     (search_back (λ name. name_cmp name dst) (zip names costs) r (rw count within) (rw keys searched)))
 
--- where the search ends at a place, that is the cost beside it
-pub place_searched : (names : List Name) (costs : List ℕ) (place cost : ℕ) → length costs ≡ length names
-    → slice_get costs place ≡ Some cost → found (zip names costs) (Ok place) ≡ Some cost
-place_searched [] [] place cost even beside = cc
-place_searched [] (first ∷ costs) place cost even beside = absurd (omega arith)
-place_searched (name ∷ names) [] place cost even beside = absurd (omega arith)
-place_searched (name ∷ names) (first ∷ costs) zero cost even beside = beside
-place_searched (name ∷ names) (first ∷ costs) (suc place) cost even beside =
-    place_searched names costs place cost (omega arith) beside
-
--- ---- guesses
+-- ---- places
 
 -- the cost at a place stands in its pair
 pub slice_get-costs : (names : List Name) (costs : List ℕ) (place : ℕ) → length costs ≡ length names
@@ -153,20 +144,42 @@ none_beside (first ∷ names) (one ∷ costs) zero name even there none = cc
 none_beside (first ∷ names) (one ∷ costs) (suc place) name even there none =
     none_beside names costs place name (omega arith) there none
 
--- a guess at the place of a name is what is told of it
-pub guess_told : (names : List Name) (costs : List ℕ) (told : Costs) (guess : Guess) (name dst : Name)
-    → zip names costs ≡ told → length costs ≡ length names → IsStrictlySortedBy name_cmp names
-    → slice_get names guess.place ≡ Some name → same_name name dst ≡ true → IsGuess told guess
-    → guess.cost ≡ cost_to told dst
-guess_told names costs told guess name dst is even rise there same right = by (slice_get costs guess.place) refl
+-- a place where a destination stands is its place
+pub place_of_name : (names : List Name) (place : ℕ) (name dst : Name) → IsStrictlySortedBy name_cmp names
+    → slice_get names place ≡ Some name → same_name name dst ≡ true → IsPlace names dst place
+place_of_name names place name dst rise there same costs even = by (slice_get costs place) refl
   where
-    read : guess.cost ≡ slice_get costs guess.place
-    read =
-        right
-        ∙ sym (slice_get-costs names costs guess.place even
-        ∙ ap (λ all. option_map (λ cost. cost.1) (slice_get all guess.place)) is)
-
-    by : (found : Option ℕ) → slice_get costs guess.place ≡ found → guess.cost ≡ cost_to told dst
+    by : (found : Option ℕ) → slice_get costs place ≡ found → slice_get costs place ≡ cost_to (zip names costs) dst
     by (Some cost) beside =
-        read ∙ (beside ∙ sym (cost_beside names costs told guess.place name cost dst is even rise there beside same))
-    by None beside = absurd (none_beside names costs guess.place name even there beside)
+        beside
+        ∙ sym (cost_beside names costs (zip names costs) place name cost dst refl even rise there beside same)
+    by None beside = absurd (none_beside names costs place name even there beside)
+
+-- and so is that at which a search for it ends
+pub place_found : (names : List Name) (dst : Name) (r : Result ℕ ℕ) (place : ℕ) → IsStrictlySortedBy name_cmp names
+    → IsSearchInRange r (length names) → IsBinarySearchResult (λ name. name_cmp name dst) names r → r ≡ Ok place
+    → IsPlace names dst place
+place_found names dst r place rise within searched is costs even =
+    slice_get-costs names costs place even
+    ∙ sym (cost_searched names costs (zip names costs) dst r refl even rise within searched
+    ∙ ap (found (zip names costs)) is)
+
+-- past all names where it ends at none
+pub place_missed : (names : List Name) (dst : Name) (r : Result ℕ ℕ) (place : ℕ) → IsStrictlySortedBy name_cmp names
+    → IsSearchInRange r (length names) → IsBinarySearchResult (λ name. name_cmp name dst) names r → r ≡ Err place
+    → IsPlace names dst (length names)
+place_missed names dst r place rise within searched is costs even =
+    slice_get_past costs (length names) (omega arith)
+    ∙ sym (cost_searched names costs (zip names costs) dst r refl even rise within searched
+    ∙ ap (found (zip names costs)) is)
+
+-- one destination more with its place
+pub places_more : (names dsts : List Name) (places : List ℕ) (dst : Name) (place : ℕ) → ArePlaces names dsts places
+    → IsPlace names dst place → ArePlaces names (dsts ++ dst ∷ []) (places ++ place ∷ [])
+places_more names dsts places dst place right one costs even =
+    rw (
+      map-append (slice_get costs) places (place ∷ []),
+      map-append (cost_to (zip names costs)) dsts (dst ∷ []),
+      right costs even,
+      one costs even,
+    ) refl

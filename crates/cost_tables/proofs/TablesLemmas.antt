@@ -2,7 +2,7 @@
 use Rattle.std.proofs.Common.{◌≡◌, refl, ap, sym, ◌∙◌, arith, append-nil}
 use Rattle.std.proofs.lemmas.Bool.{and_parts, true≢false}
 use Rattle.std.specs.Prelude.{Bool, true, false, ◌||◌, cond, List, [], ◌∷◌, ◌++◌, Option, None, Some, is_some}
-use Rattle.std.specs.Prelude.{option_and_then}
+use Rattle.std.specs.Prelude.{option_and_then, unwrap_or}
 use Rattle.std.specs.BTreeMap.{is_at}
 use Rattle.std.specs.List.{AllByRecursion, filter_map, list_any}
 use Rattle.std.specs.Map.{keys_of, lookup}
@@ -17,7 +17,7 @@ use Rattle.alto_rows.specs.Rows.{Rows, has_row, value_of}
 use Rattle.alto_rows.specs.Versions.{resources_of}
 use Rattle.alto_rows.proofs.ResourceLemmas.{resources_found}
 use Rattle.alto_rows.proofs.TouchesLemmas.{one_name, same_resource_ties}
-use Rattle.cost_tables.specs.Tables.{AreCostsOf, Name, Table, Tables, TellsCosts, cost_told, is_of}
+use Rattle.cost_tables.specs.Tables.{AreCostsOf, Name, Table, Tables, TellsCosts, cost_in, cost_told, costs_of, is_of}
 
 -- the network and the metric of a cost map
 abbrev pub metric_of : Resource → Option (Name × Name)
@@ -80,6 +80,16 @@ found_named test (of ∷ tables) = by (test of.0) (found_named test tables)
         → is_some (cond b (Some of.1) (lookup test tables)) ≡ (b || list_any test (keys_of tables))
     by true more = refl
     by false more = more
+
+-- the cost of a pair in a metric
+pub told_in : (tables : Tables) (net metric src dst : Name)
+    → cost_told (costs_of tables net metric) src dst ≡ cost_in tables net metric src dst
+told_in tables net metric src dst = by (lookup (is_of net metric) tables)
+  where
+    by : (found : Option Table) → cost_told (unwrap_or found []) src dst
+        ≡ option_and_then (λ table. cost_told table src dst) found
+    by (Some table) = refl
+    by None = refl
 
 -- a declared metric is among the names of the declared cost maps
 named_declared : (net metric : Name) (all : List Resource)

@@ -1,3 +1,4 @@
 pub mod Tables
-pub mod Guesses
+pub mod CostsTo
+pub mod Lists
 pub mod Renewed

@@ -5,12 +5,12 @@ use Rattle.alto_rows.specs.Order.{name_cmp}
 use Rattle.cost_tables.specs.Tables.{Costs, Name, Table}
 
 -- of sources in byte order, those before a name
-abbrev pub before : Name → Table → Table
+abbrev pub before : {X : Type 0} → Name → List (Name × X) → List (Name × X)
 before name [] = []
 before name (from ∷ table) = match_ordering (name_cmp from.0 name) (from ∷ before name table) [] []
 
 -- those behind it
-abbrev pub behind : Name → Table → Table
+abbrev pub behind : {X : Type 0} → Name → List (Name × X) → List (Name × X)
 behind name [] = []
 behind name (from ∷ table) = match_ordering (name_cmp from.0 name) (behind name table) table (from ∷ table)
 

@@ -1,5 +1,6 @@
 -- The costs of rows as tables tell them: by network and metric, then by source, then by destination.
-use Rattle.std.specs.Prelude.{◌≡◌, ℕ, Bool, ◌&&◌, List, Option, Some, None, option_and_then, if◌then◌else◌}
+use Rattle.std.specs.Prelude.{◌≡◌, ℕ, Bool, ◌&&◌, List, [], Option, Some, None, option_and_then, if◌then◌else◌}
+use Rattle.std.specs.Prelude.{unwrap_or}
 use Rattle.std.specs.BTreeMap.{is_at}
 use Rattle.std.specs.List.{filter_map, list_any}
 use Rattle.std.specs.List.Sorted.{IsStrictlySortedBy}
@@ -45,6 +46,10 @@ is_of net metric of = same_name net of.0 && same_name metric of.1
 abbrev pub cost_in : Tables → Name → Name → Name → Name → Option ℕ
 cost_in tables net metric src dst =
     option_and_then (λ table. cost_told table src dst) (lookup (is_of net metric) tables)
+
+-- the costs of a metric of a network in tables
+abbrev pub costs_of : Tables → Name → Name → Table
+costs_of tables net metric = unwrap_or (lookup (is_of net metric) tables) []
 
 -- tables tell the costs of rows
 abbrev pub AreCostsOf : Rows → Tables → Type 0

@@ -1,13 +1,15 @@
 //! The costs in a metric from one source.
-ghost use Rattle.std.specs.Prelude.{◌≡◌, ◌++◌, ◌∷◌, [], true, IfOk, IfSome, OnOk, length, map, nat_eq, slice_get, zip};
+ghost use Rattle.std.specs.Prelude.{◌≡◌, ◌++◌, ◌∷◌, [], IfOk, OnOk, List, length, map, nat_eq, option_map};
+ghost use Rattle.std.specs.Prelude.{slice_get, zip};
 ghost use Rattle.std.specs.Arc.{arc_value};
-ghost use Rattle.std.specs.List.{AllByRecursion, filter_map};
+ghost use Rattle.std.specs.List.{filter_map};
+ghost use Rattle.std.specs.List.Sorted.{IsStrictlySortedBy};
+ghost use Rattle.alto_rows.specs.Order.{name_cmp};
 ghost use Rattle.alto_rows.specs.Rows.{AreSorted};
-ghost use Rattle.cost_tables.specs.declared.places.Guess.{Guess};
-ghost use Rattle.cost_tables.specs.Guesses.{IsGuess};
-ghost use Rattle.cost_tables.specs.Tables.{cost_given, cost_to, costs_from};
+ghost use Rattle.cost_tables.specs.Lists.{ArePlaces, IsSharedOrNew};
+ghost use Rattle.cost_tables.specs.Tables.{Name, cost_given, cost_to, costs_from};
 
-use crate::places::{Guess, Places, keep_place};
+use crate::destinations::Destinations;
 use alto_names::{Metric, NetName, PidName};
 use alto_rows::{Key, RowStore, Span, Value, Within, rows_in};
 use std::alloc::{AllocError, Global};
@@ -15,11 +17,11 @@ use std::marker::Model;
 use std::sync::Arc;
 
 /// The costs in a metric from one source, by destination in byte order: 8 bytes each. Sources that have the same
-/// destinations share their names. A contract sees the source and the costs.
+/// destinations share their list. A contract sees the source, the costs and the list.
 #[derive(Drop)]
 pub(crate) struct FromSource {
     source: PidName,
-    destinations: Arc<Vec<PidName>>,
+    list: Arc<Destinations>,
     costs: Vec<u64>,
 }
 
@@ -28,19 +30,25 @@ impl Model for FromSource {
     ghost use Rattle.std.specs.Arc.{arc_value};
     ghost use Rattle.std.specs.List.Sorted.{IsStrictlySortedBy};
     ghost use Rattle.alto_rows.specs.Order.{name_cmp};
-    ghost use Rattle.cost_tables.specs.Tables.{Costs, Name};
+    ghost use Rattle.cost_tables.specs.Lists.{Listed};
+    ghost use Rattle.cost_tables.specs.Tables.{Name};
 
-    ghost Value = { Name × Costs };
+    ghost Value = { Name × Listed };
 
-    ghost view = { λ from. (from.source, zip (arc_value from.destinations).items from.costs.items) };
+    ghost view = { λ from. (
+      from.source,
+      record {
+        costs = zip (arc_value from.list).names from.costs.items;
+        list = arc_value from.list;
+      },
+    ) };
 
-    ghost invariant = { λ from. IsStrictlySortedBy name_cmp (arc_value from.destinations).items
-        × (length from.costs.items ≡ length (arc_value from.destinations).items) };
+    ghost invariant = { λ from. length from.costs.items ≡ length (arc_value from.list).names };
 }
 
 impl FromSource {
-    /// Those that rows give. One search, and one walk over the source's rows. The names of the destinations are shared
-    /// with a source that has the same, which takes one comparison of two names for each.
+    /// Those that rows give. One search, and one walk over the source's rows. The list of the destinations is shared
+    /// with a source that has the same, which takes one comparison of two names for each; else it gets this number.
     pub(crate) fn of<R: RowStore>(
         alloc: Global,
         rows: &R,
@@ -48,15 +56,19 @@ impl FromSource {
         metric: &Metric,
         source: &PidName,
         like: Option<&FromSource>,
+        number: u64,
     ) -> Result<FromSource, AllocError>
         requires { AreSorted (R.rows rows.now) }
-        ensures { IfOk result (λ from. from
-            ≡ (source.now, costs_from (R.rows rows.now) net.now metric.now source.now)) }
+        ensures source { IfOk result (λ from. from.0 ≡ source.now) }
+        ensures costs { IfOk result (λ from. from.1.costs
+            ≡ costs_from (R.rows rows.now) net.now metric.now source.now) }
+        ensures list { IfOk result (λ from.
+            IsSharedOrNew (option_map (λ from. from.now.1.list) like.entry) number from.1.list) }
     {
         let (destinations, costs) = costs_from(alloc, rows, net, metric, source)?;
         Ok(FromSource {
             source: source.clone()?,
-            destinations: shared(alloc, like, destinations)?,
+            list: listed(alloc, like, number, destinations)?,
             costs,
         })
     }
@@ -68,88 +80,57 @@ impl FromSource {
         &self.source
     }
 
+    /// The number of the list of the destinations.
+    pub(crate) fn number(&self) -> u64
+        ensures { result ≡ self.now.1.list.number }
+    {
+        self.list.number()
+    }
+
     /// Whether the source has no cost.
     pub(crate) fn is_empty(&self) -> bool
-        ensures { result ≡ nat_eq (length self.now.1) 0 }
+        ensures { result ≡ nat_eq (length self.now.1.costs) 0 }
     {
         self.costs.is_empty()
     }
 
-    /// Puts the costs to destinations at the end, one for each. Where a place is right its destination costs one
-    /// comparison of names, else one binary search. The places become those that were found.
-    pub(crate) fn push_costs(
+    /// Finds where destinations stand, as the list does.
+    pub(crate) fn find(
         &self,
         destinations: &[PidName],
-        places: &mut Places,
+        places: &mut Vec<usize>,
+    ) -> Result<(), AllocError>
+        ensures { OnOk result (ArePlaces self.now.1.list.names destinations.now places.new.items) }
+    {
+        self.list.find(destinations, places)
+    }
+
+    /// Puts the costs at places at the end, one for each.
+    pub(crate) fn push_at(
+        &self,
+        places: &[usize],
         costs: &mut Vec<Option<u64>>,
     ) -> Result<(), AllocError>
-        ensures { OnOk result (costs.new.items ≡ costs.old.items ++ map (cost_to self.now.1) destinations.now) }
+        ensures { OnOk result ((destinations : List Name)
+            → ArePlaces self.now.1.list.names destinations places.now
+            → costs.new.items ≡ costs.old.items ++ map (cost_to self.now.1.costs) destinations) }
     {
-        self.read_ahead(&places.next, &mut places.read)?;
-        for (at, destination) in destinations.iter().enumerate() {
-            let (cost, place) = self.told(destination, places.read.get(at));
-            costs.push(cost)?;
-            keep_place(&mut places.next, at, place)?;
-        }
-        Ok(())
+        push_numbers(&self.costs, places, costs)
     }
+}
 
-    /// Reads the costs at places. They lie far apart, and are read before any name is looked at, so that one read
-    /// needn't wait for another.
-    fn read_ahead(&self, places: &[usize], read: &mut Vec<Guess>) -> Result<(), AllocError>
-        ensures { OnOk result (AllByRecursion (IsGuess self.now.1) read.new.items) }
-    {
-        read.clear();
-        for place in places {
-            read.push(self.guess(*place))?;
-        }
-        Ok(())
+/// Puts the numbers at places at the end, one for each, `None` where there is none. No read waits for another.
+fn push_numbers(
+    numbers: &[u64],
+    places: &[usize],
+    out: &mut Vec<Option<u64>>,
+) -> Result<(), AllocError>
+    ensures { OnOk result (out.new.items ≡ out.old.items ++ map (slice_get numbers.now) places.now) }
+{
+    for place in places {
+        out.push(number_at(numbers, *place))?;
     }
-
-    /// The cost at a place.
-    fn guess(&self, place: usize) -> Guess
-        ensures { IsGuess self.now.1 result }
-    {
-        Guess {
-            place,
-            cost: number_at(&self.costs, place),
-        }
-    }
-
-    /// The cost to a destination, and where it stands or would stand. One comparison where the guess is right, else one
-    /// binary search.
-    fn told(&self, destination: &PidName, guess: Option<&Guess>) -> (Option<u64>, usize)
-        requires { IfSome guess (λ guess. IsGuess self.now.1 guess.now) }
-        ensures { result.0 ≡ cost_to self.now.1 destination.now }
-    {
-        if let Some(guess) = guess {
-            if self.has_at(guess.place, destination) {
-                return (guess.cost, guess.place);
-            }
-        }
-        self.search(destination)
-    }
-
-    /// Whether a destination stands at a place.
-    fn has_at(&self, place: usize, destination: &PidName) -> bool
-        ensures { result ≡ true → (guess : Guess) → guess.place ≡ place → IsGuess self.now.1 guess
-            → guess.cost ≡ cost_to self.now.1 destination.now }
-    {
-        match self.destinations.get(place) {
-            Some(name) => name == destination,
-            None => false,
-        }
-    }
-
-    /// The cost to a destination, and where it stands or would stand. One binary search.
-    fn search(&self, destination: &PidName) -> (Option<u64>, usize)
-        ensures { result.0 ≡ cost_to self.now.1 destination.now }
-    {
-        match self.destinations.binary_search(destination) {
-            Ok(place) => (Some(self.costs[place]), place),
-            Err(place) => (None, place),
-        }
-    }
+    Ok(())
 }
 
 /// The number at a place, if there is one.
@@ -218,18 +199,22 @@ fn push(
     Ok(())
 }
 
-/// Names behind an `Arc`: that of a source with the same destinations, if there is one.
-fn shared(
+/// A list of these destinations: that of a source with the same, if there is one, else a new one with this number.
+fn listed(
     alloc: Global,
     like: Option<&FromSource>,
+    number: u64,
     names: Vec<PidName>,
-) -> Result<Arc<Vec<PidName>>, AllocError>
-    ensures { IfOk result (λ shared. (arc_value shared).items ≡ names.items) }
+) -> Result<Arc<Destinations>, AllocError>
+    requires { IsStrictlySortedBy name_cmp names.items }
+    ensures names { IfOk result (λ list. (arc_value list).names ≡ names.items) }
+    ensures list { IfOk result (λ list.
+        IsSharedOrNew (option_map (λ from. from.now.1.list) like.entry) number (arc_value list)) }
 {
     if let Some(from) = like {
-        if *from.destinations == names {
-            return Arc::try_clone(&from.destinations);
+        if from.list.are(&names) {
+            return Arc::try_clone(&from.list);
         }
     }
-    Ok(Arc::new(alloc, names)?)
+    Ok(Arc::new(alloc, Destinations::new(number, names))?)
 }

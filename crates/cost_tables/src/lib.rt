@@ -4,15 +4,18 @@
 //! ```text
 //! rows ── CostTables::of ──▶ CostTables ── after(rows, writes) ──▶ the next ones: of each metric the costs from all
 //!                                                                   sources that the writes left are shared
-//! CostTables ── push_costs(net, metric, source, destinations) ──▶ a cost for each destination, if it has one
+//! CostTables ── costs_to(net, metric, destinations) ──▶ CostsTo ── push_from(source) ──▶ a cost for each destination,
+//!                                                                                        if it has one
 //! ```
 #![tactic(auto)]
 
+mod costs_to;
+mod destinations;
 mod from_source;
 mod places;
 mod sources;
 mod table;
 mod tables;
 
-pub use places::Places;
+pub use costs_to::CostsTo;
 pub use tables::CostTables;

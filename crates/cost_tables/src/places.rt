@@ -1,43 +1,50 @@
-//! Where destinations stand among the costs from a source.
+//! Where destinations stand in a list of destinations.
+ghost use Rattle.std.specs.Prelude.{◌≡◌, Bool, None, OnOk, Some};
+ghost use Rattle.std.specs.Map.{lookup};
+ghost use Rattle.cost_tables.specs.Lists.{ArePlacesIn, HaveNumbers, Sources};
+ghost use Rattle.cost_tables.specs.Tables.{Name};
 
+use crate::from_source::FromSource;
+use alto_names::PidName;
 use std::alloc::{AllocError, Global};
 
-/// A place among the costs from a source, and the cost there, if there is one.
-#[derive(Clone, Copy)]
-pub(crate) struct Guess {
-    pub(crate) place: usize,
-    pub(crate) cost: Option<u64>,
-}
-
-/// Where destinations may stand among the costs from a source, one place for each, and what was read there. Sources
-/// mostly have costs to the same destinations, so places are handed on from source to source.
+/// Where each of some destinations stands in a list, and the number of that list, once there is one.
 #[derive(Drop)]
-pub struct Places {
-    /// The places that are guessed next.
-    pub(crate) next: Vec<usize>,
-    /// What was read at the places that were guessed last.
-    pub(crate) read: Vec<Guess>,
+pub(crate) struct Places {
+    pub(crate) number: Option<u64>,
+    pub(crate) places: Vec<usize>,
 }
 
 impl Places {
     /// None yet. Takes no memory.
-    pub fn new(alloc: Global) -> Places {
+    pub(crate) fn new(alloc: Global) -> Places
+        ensures { result.number ≡ None }
+    {
         Places {
-            next: Vec::new(alloc),
-            read: Vec::new(alloc),
+            number: None,
+            places: Vec::new(alloc),
         }
     }
-}
 
-/// Keeps a place to be guessed next.
-pub(crate) fn keep_place(
-    places: &mut Vec<usize>,
-    at: usize,
-    place: usize,
-) -> Result<(), AllocError> {
-    match places.get_mut(at) {
-        Some(kept) => *kept = place,
-        None => places.push(place)?,
+    /// Finds those in the list of a source, where they are of a list with another number.
+    pub(crate) fn find(
+        &mut self,
+        from: &FromSource,
+        destinations: &[PidName],
+    ) -> Result<(), AllocError>
+        ensures found { OnOk result (self.new.number ≡ Some from.now.1.list.number) }
+        ensures right { (sources : Sources) (test : Name → Bool) → HaveNumbers sources
+            → lookup test sources ≡ Some from.now.1
+            → ArePlacesIn sources self.old.number destinations.now self.old.places.items
+            → ArePlacesIn sources self.new.number destinations.now self.new.places.items }
+    {
+        let number = from.number();
+        if self.number == Some(number) {
+            return Ok(());
+        }
+        self.number = None;
+        from.find(destinations, &mut self.places)?;
+        self.number = Some(number);
+        Ok(())
     }
-    Ok(())
 }

@@ -1,5 +1,5 @@
 //! The costs of one metric, by source.
-ghost use Rattle.std.specs.Prelude.{◌≡◌, ◌++◌, List, IfOk, OnOk, map, option_map};
+ghost use Rattle.std.specs.Prelude.{◌≡◌, ◌++◌, ◌+◌, ◌-◌, List, IfOk, OnOk, length, map, option_map, slice_get};
 ghost use Rattle.std.specs.Arc.{arc_value};
 ghost use Rattle.std.specs.BTreeMap.{is_at};
 ghost use Rattle.std.specs.List.Sorted.{IsStrictlySortedBy};
@@ -7,6 +7,7 @@ ghost use Rattle.std.specs.Map.{keys_of, lookup};
 ghost use Rattle.alto_rows.specs.Order.{name_cmp};
 ghost use Rattle.alto_rows.specs.Rows.{AreSorted, Rows};
 ghost use Rattle.alto_rows.specs.Rows as spec;
+ghost use Rattle.cost_tables.specs.Lists.{AreNumbered, HaveNumbers, Sources, table_of};
 ghost use Rattle.cost_tables.specs.Renewed as made;
 ghost use Rattle.cost_tables.specs.Tables.{TellsCosts, costs_from};
 
@@ -19,10 +20,13 @@ use std::cmp::Ordering;
 use std::marker::Model;
 use std::sync::Arc;
 
-/// The costs of one metric, by source in byte order. A contract sees the sources with their costs.
+/// The costs of one metric, by source in byte order. A contract sees the sources with their costs and the lists of
+/// their destinations. Lists with one number have the same names.
 #[derive(Drop)]
 pub(crate) struct Table {
     sources: Vec<Arc<FromSource>>,
+    /// The next number of a list of destinations.
+    next: u64,
 }
 
 impl Model for Table {
@@ -31,13 +35,14 @@ impl Model for Table {
     ghost use Rattle.std.specs.List.Sorted.{IsStrictlySortedBy};
     ghost use Rattle.std.specs.Map.{keys_of};
     ghost use Rattle.alto_rows.specs.Order.{name_cmp};
-    ghost use Rattle.cost_tables.specs.Tables as tables;
+    ghost use Rattle.cost_tables.specs.Lists.{AreNumbered, Sources};
 
-    ghost Value = { tables.Table };
+    ghost Value = { Sources };
 
     ghost view = { λ table. map arc_value table.sources.items };
 
-    ghost invariant = { λ table. IsStrictlySortedBy name_cmp (keys_of (map arc_value table.sources.items)) };
+    ghost invariant = { λ table. IsStrictlySortedBy name_cmp (keys_of (map arc_value table.sources.items))
+        × AreNumbered table.next (map arc_value table.sources.items) };
 }
 
 impl Table {
@@ -49,11 +54,12 @@ impl Table {
         metric: &Metric,
     ) -> Result<Table, AllocError>
         requires { AreSorted (R.rows rows.now) }
-        ensures { IfOk result (TellsCosts (R.rows rows.now) net.now metric.now) }
+        ensures { IfOk result (λ table. TellsCosts (R.rows rows.now) net.now metric.now (table_of table)) }
     {
         let sources = sources_in(alloc, rows, net, metric)?;
         let none = Table {
             sources: Vec::new(alloc),
+            next: 0,
         };
         none.renewed(alloc, rows, net, metric, &sources)
     }
@@ -71,8 +77,8 @@ impl Table {
         requires { AreSorted (R.rows rows.now) }
         ensures { IfOk result (λ after. (before : Rows) → AreSorted before
             → R.rows rows.now ≡ spec.after before writes.now
-            → TellsCosts before net.now metric.now (arc_value table.now)
-            → TellsCosts (R.rows rows.now) net.now metric.now (arc_value after)) }
+            → TellsCosts before net.now metric.now (table_of (arc_value table.now))
+            → TellsCosts (R.rows rows.now) net.now metric.now (table_of (arc_value after))) }
     {
         let sources = sources_written(alloc, net, metric, writes)?;
         if sources.is_empty() {
@@ -83,7 +89,8 @@ impl Table {
 
     /// The costs from a source, if it has any. One binary search.
     pub(crate) fn from(&self, source: &PidName) -> Option<&FromSource>
-        ensures { option_map (λ from. from.now.1) result ≡ lookup (is_at (name_cmp source.now)) self.now }
+        ensures from { option_map (λ from. from.now.1) result ≡ lookup (is_at (name_cmp source.now)) self.now }
+        ensures lists { HaveNumbers self.now }
     {
         let place = self
             .sources
@@ -105,17 +112,22 @@ impl Table {
         requires sorted { AreSorted (R.rows rows.now) }
         requires rise { IsStrictlySortedBy name_cmp sources.now }
         ensures in_order { IsStrictlySortedBy name_cmp (keys_of self.now) }
-        ensures gives { IfOk result (λ table. table
-            ≡ made.renewed (costs_from (R.rows rows.now) net.now metric.now) sources.now self.now) }
+        ensures gives { IfOk result (λ table. table_of table
+            ≡ made.renewed (costs_from (R.rows rows.now) net.now metric.now) sources.now (table_of self.now)) }
     {
         let mut renewed = Vec::with_capacity(alloc, self.sources.len())?;
         let mut left = self.sources.as_slice();
+        let mut next = self.next;
         for source in sources {
             left = share_before(source, left, &mut renewed)?;
-            put_standing(alloc, rows, net, metric, source, &mut renewed)?;
+            put_standing(alloc, rows, net, metric, source, next, &mut renewed)?;
+            next = following(next)?;
         }
         share(left, &mut renewed)?;
-        Ok(Table { sources: renewed })
+        Ok(Table {
+            sources: renewed,
+            next,
+        })
     }
 }
 
@@ -142,25 +154,46 @@ fn share_before<'a>(
     Ok(left)
 }
 
-/// Puts the costs from a source that rows give, where there are any.
+/// The number behind one. More than 64 bits can count are out of memory.
+fn following(number: u64) -> Result<u64, AllocError>
+    ensures { IfOk result (λ following. following ≡ number + 1) }
+{
+    number.checked_add(1).ok_or(AllocError)
+}
+
+/// Puts the costs from a source that rows give, where there are any. A new list of its destinations gets this number.
 fn put_standing<R: RowStore>(
     alloc: Global,
     rows: &R,
     net: &NetName,
     metric: &Metric,
     source: &PidName,
+    number: u64,
     sources: &mut Vec<Arc<FromSource>>,
 ) -> Result<(), AllocError>
     requires { AreSorted (R.rows rows.now) }
-    ensures { OnOk result (map arc_value sources.new.items ≡ map arc_value sources.old.items
+    ensures costs { OnOk result (table_of (map arc_value sources.new.items)
+        ≡ table_of (map arc_value sources.old.items)
         ++ made.standing source.now (costs_from (R.rows rows.now) net.now metric.now source.now)) }
+    ensures lists { OnOk result ((left : Sources) → AreNumbered number (map arc_value sources.old.items ++ left)
+        → AreNumbered (number + 1) (map arc_value sources.new.items ++ left)) }
 {
-    let like = sources.last().map(|from| &**from);
-    let from = FromSource::of(alloc, rows, net, metric, source, like)?;
+    let from = FromSource::of(alloc, rows, net, metric, source, last(sources), number)?;
     if !from.is_empty() {
         sources.push(Arc::new(alloc, from)?)?;
     }
     Ok(())
+}
+
+/// The last source.
+fn last(sources: &[Arc<FromSource>]) -> Option<&FromSource>
+    ensures { option_map (λ from. from.now) result
+        ≡ slice_get (map arc_value sources.now) (length sources.now - 1) }
+{
+    match sources.last() {
+        Some(from) => Some(&**from),
+        None => None,
+    }
 }
 
 /// Shares sources.

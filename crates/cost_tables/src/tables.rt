@@ -1,14 +1,15 @@
 //! The costs of all metrics.
-ghost use Rattle.std.specs.Prelude.{◌≡◌, ◌++◌, IfOk, None, OnOk, map, option_map};
+ghost use Rattle.std.specs.Prelude.{◌≡◌, IfOk, option_map};
 ghost use Rattle.std.specs.Arc.{arc_value};
 ghost use Rattle.std.specs.Map.{lookup};
 ghost use Rattle.alto_rows.specs.Good.{AreGood};
 ghost use Rattle.alto_rows.specs.Rows.{AreSorted, Rows};
 ghost use Rattle.alto_rows.specs.Rows as spec;
 ghost use Rattle.alto_rows.specs.Versions.{resources_of};
-ghost use Rattle.cost_tables.specs.Tables.{AreCostsOf, TellsCosts, cost_in, is_of};
+ghost use Rattle.cost_tables.specs.Lists.{table_of};
+ghost use Rattle.cost_tables.specs.Tables.{AreCostsOf, TellsCosts, costs_of, is_of};
 
-use crate::places::Places;
+use crate::costs_to::CostsTo;
 use crate::table::Table;
 use alto_names::{Metric, NetName, PidName};
 use alto_rows::{Resource, RowStore, Write};
@@ -26,11 +27,12 @@ struct MetricTable {
 
 impl Model for MetricTable {
     ghost use Rattle.std.specs.Arc.{arc_value};
+    ghost use Rattle.cost_tables.specs.Lists.{table_of};
     ghost use Rattle.cost_tables.specs.Tables as tables;
 
     ghost Value = { (tables.Name × tables.Name) × tables.Table };
 
-    ghost view = { λ of. ((of.net, of.metric), arc_value of.table) };
+    ghost view = { λ of. ((of.net, of.metric), table_of (arc_value of.table)) };
 }
 
 /// The costs of all metrics. A contract sees them by network and metric, source, and destination.
@@ -96,30 +98,21 @@ impl CostTables {
         Ok(CostTables { tables })
     }
 
-    /// Puts the costs in a metric of a network from a source to destinations at the end, one for each, `None` exactly
-    /// where there is no cost.
-    ///
-    /// One pass over the metrics, one binary search for the source, and for each destination one comparison of two
-    /// names where its place is right, else one binary search. The places become those that were found, so they are
-    /// handed on from source to source.
-    pub fn push_costs(
-        &self,
+    /// The costs in a metric of a network to destinations. One pass over the metrics. Takes no memory.
+    pub fn costs_to<'a>(
+        &'a self,
+        alloc: Global,
         net: &NetName,
         metric: &Metric,
-        source: &PidName,
-        destinations: &[PidName],
-        places: &mut Places,
-        costs: &mut Vec<Option<u64>>,
-    ) -> Result<(), AllocError>
-        ensures { OnOk result (costs.new.items
-            ≡ costs.old.items ++ map (cost_in self.now net.now metric.now source.now) destinations.now) }
+        destinations: &'a [PidName],
+    ) -> CostsTo<'a>
+        ensures table { result.table ≡ costs_of self.now net.now metric.now }
+        ensures destinations { result.destinations ≡ destinations.now }
     {
-        if let Some(table) = self.table(net, metric) {
-            if let Some(from) = table.from(source) {
-                return from.push_costs(destinations, places, costs);
-            }
+        match self.table(net, metric) {
+            Some(table) => CostsTo::new(alloc, Some(&**table), destinations),
+            None => CostsTo::new(alloc, None, destinations),
         }
-        push_none(destinations, costs)
     }
 
     /// The costs of a metric after writes that led to these rows.
@@ -134,7 +127,7 @@ impl CostTables {
         requires { AreSorted (R.rows rows.now) }
         ensures { IfOk result (λ table. (before : Rows) → AreSorted before
             → R.rows rows.now ≡ spec.after before writes.now → AreCostsOf before self.now
-            → TellsCosts (R.rows rows.now) net.now metric.now (arc_value table)) }
+            → TellsCosts (R.rows rows.now) net.now metric.now (table_of (arc_value table))) }
     {
         match self.table(net, metric) {
             Some(table) => Table::after(table, alloc, rows, net, metric, writes),
@@ -144,7 +137,8 @@ impl CostTables {
 
     /// The costs of a metric, if it has a table. Linear in their number.
     fn table(&self, net: &NetName, metric: &Metric) -> Option<&Arc<Table>>
-        ensures { option_map (λ table. arc_value table.now) result ≡ lookup (is_of net.now metric.now) self.now }
+        ensures { option_map (λ table. table_of (arc_value table.now)) result
+            ≡ lookup (is_of net.now metric.now) self.now }
     {
         for of in &self.tables {
             if *net == of.net && *metric == of.metric {
@@ -161,21 +155,11 @@ fn metric_table(
     metric: &Metric,
     table: Arc<Table>,
 ) -> Result<MetricTable, AllocError>
-    ensures { IfOk result (λ of. of ≡ ((net.now, metric.now), arc_value table)) }
+    ensures { IfOk result (λ of. of ≡ ((net.now, metric.now), table_of (arc_value table))) }
 {
     Ok(MetricTable {
         net: net.clone()?,
         metric: metric.clone()?,
         table,
     })
-}
-
-/// Puts `None` at the end for each of these destinations.
-fn push_none(destinations: &[PidName], costs: &mut Vec<Option<u64>>) -> Result<(), AllocError>
-    ensures { OnOk result (costs.new.items ≡ costs.old.items ++ map (λ destination. None) destinations.now) }
-{
-    for _ in destinations {
-        costs.push(None)?;
-    }
-    Ok(())
 }

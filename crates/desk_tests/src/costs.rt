@@ -3,7 +3,6 @@ use crate::desks::{MemDesk, imported, new_desk};
 use crate::draws::Draws;
 use alto_names::{Metric, NetName, PidName};
 use alto_rows::{Key, RowStore, Value};
-use cost_tables::Places;
 use std::alloc::{AllocError, Global};
 use std::test::Fail;
 
@@ -72,13 +71,11 @@ fn compared(alloc: Global, desk: &MemDesk) -> Result<String, Fail> {
     let mut count: u32 = 0;
     for word in ["hopcount", "latency", "routingcost"] {
         let metric = Metric::read(alloc, word.as_bytes())?;
-        let mut places = Places::new(alloc);
+        let mut told = front.costs().costs_to(alloc, &net, &metric, &pids);
         let mut costs = Vec::new(alloc);
         for source in &pids {
             costs.clear();
-            front
-                .costs()
-                .push_costs(&net, &metric, source, &pids, &mut places, &mut costs)?;
+            told.push_from(source, &mut costs)?;
             for (cost, destination) in costs.iter().zip(&pids) {
                 let (src, dst) = (source.clone()?, destination.clone()?);
                 let key = Key::Cost(net.clone()?, metric.clone()?, src, dst);

@@ -1,17 +1,13 @@
 use Rattle.std.proofs.Common.{◌≡◌, length}
-use Rattle.std.specs.List.Sorted.{IsStrictlySortedBy}
-use Rattle.alto_rows.specs.Order.{name_cmp}
 use Rattle.cost_tables.proofs.FromLemmas.{rise-costs_from}
 use Rattle.cost_tables.proofs.PairLemmas.{keys_of-zip}
 use Rattle.cost_tables.proofs.from_source.FromSource.of.Goals as goal
 
-pub invariant_of-result : goal.invariant_of-result
-invariant_of-result g c =
+pub listed-requires : goal.listed-requires
+listed-requires g c =
     let names = c.in_ok-destinations.destinations.items in
     let costs = c.in_ok-destinations.costs.items in
     let rows = g.R.RowStore.rows c.args.rows.now in
     let even : length costs ≡ length names = c.in_ok-destinations.ensures.even in
     let told = rise-costs_from rows c.args.net.now c.args.metric.now c.args.source.now c.requires in
-    let rise : IsStrictlySortedBy name_cmp names =
-    rw (← c.in_ok-destinations.ensures.told, keys_of-zip names costs even) at told in
-    rw c.in_ok-shared.ensures (rise, even)
+    rw (← c.in_ok-destinations.ensures.told, keys_of-zip names costs even) at told

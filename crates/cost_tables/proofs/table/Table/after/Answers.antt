@@ -1,5 +1,5 @@
 -- Where no source was written the table stays; else the costs from those that were are made anew.
-use Rattle.std.proofs.Common.{◌≡◌, sym, ◌∙◌, arith, [], vec_len, eqb-true, IfOk, Result, Ok, Err}
+use Rattle.std.proofs.Common.{◌≡◌, ap, sym, ◌∙◌, arith, [], vec_len, eqb-true, IfOk, Result, Ok, Err}
 use Rattle.std.proofs.lemmas.List.{nil_from_length}
 use Rattle.std.specs.Arc.{arc_value}
 use Rattle.std.specs.List.Sorted.{IsStrictlySortedBy}
@@ -8,13 +8,15 @@ use Rattle.std.specs.Prelude.{map}
 use Rattle.std.specs.declared.sync.Arc.{Arc}
 use Rattle.alto_rows.specs.Order.{name_cmp}
 use Rattle.alto_rows.specs.Rows.{AreSorted, Rows, after}
+use Rattle.cost_tables.specs.Lists.{Sources, table_of}
 use Rattle.cost_tables.specs.Renewed.{renewed}
-use Rattle.cost_tables.specs.Tables.{IsSetOf, Table, TellsCosts, costs_from, sources_of}
+use Rattle.cost_tables.specs.Tables.{IsSetOf, TellsCosts, costs_from, sources_of}
+use Rattle.cost_tables.proofs.ListLemmas.{keys_of-table_of}
 use Rattle.cost_tables.proofs.TableLemmas.{table_after_writes, table_unwritten}
 use Rattle.cost_tables.proofs.table.Table.after.Goals as goal
 
 -- what holds of a table holds of its clone
-if_shared : {E Z : Type 0} (P : Table → Type 0) (table : Table) → P table → (r : Result (Arc Table Z) E)
+if_shared : {E Z : Type 0} (P : Sources → Type 0) (table : Sources) → P table → (r : Result (Arc Sources Z) E)
     → IfOk r (λ after. arc_value after ≡ table) → IfOk r (λ after. P (arc_value after))
 if_shared P table holds (Ok after) is = rw is holds
 if_shared P table holds (Err e) is = tt
@@ -29,8 +31,8 @@ returns-then-is_empty g c =
     let metric = c.args.metric.now in
     let table = arc_value c.args.table.now in
     if_shared (λ after_it. (before : Rows) → AreSorted before → rows ≡ after before c.args.writes.now
-    → TellsCosts before net metric table → TellsCosts rows net metric after_it) table
-    (λ before sorted is told. table_unwritten rows before c.args.writes.now net metric sources.items table
+    → TellsCosts before net metric (table_of table) → TellsCosts rows net metric (table_of after_it)) table
+    (λ before sorted is told. table_unwritten rows before c.args.writes.now net metric sources.items (table_of table)
     c.in_ok-sources.ensures none sorted is told) c.try_clone.result c.try_clone.ensures
 
 pub returns : goal.returns
@@ -42,9 +44,11 @@ returns g c before sorted is told =
     let table = arc_value c.args.table.now in
     let set : IsSetOf sources (sources_of net metric (map (λ write. write.key) c.args.writes.now)) =
     rw c.deref-2.ensures.value c.in_ok-sources.ensures in
-    let in_order : IsStrictlySortedBy name_cmp (keys_of table) =
+    let rise : IsStrictlySortedBy name_cmp (keys_of table) =
     rw c.deref.ensures at c.in_ok-renewed.ensures.in_order in
-    let made : arc_value c.in_ok-new.field-0 ≡ renewed (costs_from rows net metric) sources table =
-    c.in_ok-new.ensures.ok ∙ (rw c.deref.ensures at c.in_ok-renewed.ensures.gives) in
-    rw made (table_after_writes rows before c.args.writes.now net metric sources table c.requires in_order
+    let in_order : IsStrictlySortedBy name_cmp (keys_of (table_of table)) = rw (keys_of-table_of table) rise in
+    let made : table_of (arc_value c.in_ok-new.field-0)
+    ≡ renewed (costs_from rows net metric) sources (table_of table) =
+    ap table_of c.in_ok-new.ensures.ok ∙ (rw c.deref.ensures at c.in_ok-renewed.ensures.gives) in
+    rw made (table_after_writes rows before c.args.writes.now net metric sources (table_of table) c.requires in_order
     set sorted is told)

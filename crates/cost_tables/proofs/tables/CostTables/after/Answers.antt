@@ -1,6 +1,7 @@
 use Rattle.std.proofs.Common.{◌≡◌, ◌∷◌, ◌+◌, drop, refl}
 use Rattle.std.proofs.lemmas.List.{drop_all, drop_more}
 use Rattle.std.specs.Arc.{arc_value}
+use Rattle.cost_tables.specs.Lists.{table_of}
 use Rattle.cost_tables.specs.Tables.{TellsCosts}
 use Rattle.cost_tables.proofs.TablesLemmas.{AreMade, made_costs, one_made, other_passed}
 use Rattle.cost_tables.proofs.tables.CostTables.after.Goals as goal
@@ -18,7 +19,7 @@ loop-of-preserved g c before sorted follows costs =
     rw (← step) (c.loop-of.invariant before sorted follows costs) in
     elim c.match-of.branch [
       | in-Cost+in_ok-table+in_ok-metric_table+in_ok-push w ↦
-          let tells : TellsCosts rows w.in-Cost.net w.in-Cost.metric (arc_value w.in_ok-table.table) =
+          let tells : TellsCosts rows w.in-Cost.net w.in-Cost.metric (table_of (arc_value w.in_ok-table.table)) =
           w.in_ok-table.ensures before sorted follows costs in
           one_made rows of left _ _ _ _ _ _ _ w.in-Cost.is made tells (rw w.tables-is w.in_ok-push.ensures.items)
           w.in_ok-metric_table.ensures

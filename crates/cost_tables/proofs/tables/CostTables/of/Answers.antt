@@ -1,6 +1,7 @@
 use Rattle.std.proofs.Common.{◌≡◌, ◌∷◌, ◌+◌, drop, refl}
 use Rattle.std.proofs.lemmas.List.{drop_all, drop_more}
 use Rattle.std.specs.Arc.{arc_value}
+use Rattle.cost_tables.specs.Lists.{table_of}
 use Rattle.cost_tables.specs.Tables.{TellsCosts}
 use Rattle.cost_tables.proofs.TablesLemmas.{AreMade, made_costs, one_made, other_passed}
 use Rattle.cost_tables.proofs.tables.CostTables.of.Goals as goal
@@ -17,7 +18,7 @@ loop-of-preserved g c =
     let made : AreMade rows (of ∷ left) c.args.resources.now c.loop-of.tables.items = rw (← step) c.loop-of.invariant in
     elim c.match-of.branch [
       | in-Cost+in_ok-of+in_ok-table+in_ok-metric_table+in_ok-push w ↦
-          let tells : TellsCosts rows w.in-Cost.net w.in-Cost.metric (arc_value w.in_ok-table.table) =
+          let tells : TellsCosts rows w.in-Cost.net w.in-Cost.metric (table_of (arc_value w.in_ok-table.table)) =
           rw w.in_ok-table.ensures.ok w.in_ok-of.ensures in
           one_made rows of left _ _ _ _ _ _ _ w.in-Cost.is made tells (rw w.tables-is w.in_ok-push.ensures.items)
           w.in_ok-metric_table.ensures

@@ -1,6 +1,6 @@
 use Rattle.std.proofs.Common.{◌≡◌, ◌++◌, map, take}
 use Rattle.std.specs.Prelude.{None}
-use Rattle.cost_tables.proofs.tables.push_none.Given as goal
+use Rattle.cost_tables.proofs.costs_to.push_none.Given as goal
 
 -- one more for each destination so far
 abbrev pub invariant-loop : goal.invariant-loop
