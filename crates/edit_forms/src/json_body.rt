@@ -69,7 +69,7 @@ fn edits_of(alloc: Global, items: &[Tree]) -> Result<Vec<Edit>, FormFault>
         → RecordsRead 1 (item_records (items_data items.now)) (Err fault)) }
     ensures edits { IfOk result (λ edits. All IsEdit edits.items) }
 {
-    let mut edits = Vec::new(alloc);
+    let mut edits = Vec::with_capacity(alloc, items.len())?;
     for (place, item) in items.iter().enumerate() {
         let row = place as u64 + 1;
         let edit = edit_of(alloc, row, item, Before::of(&edits))?;

@@ -17,7 +17,7 @@ use std::marker::Model;
 /// The records of a body, one at a time. A contract sees those from the one at hand on.
 #[derive(Drop)]
 pub(crate) struct Records<'a> {
-    reader: Reader<&'a [u8]>,
+    reader: Box<Reader<&'a [u8]>>,
     at_hand: ByteRecord,
     found: bool,
 }
@@ -30,9 +30,9 @@ impl<'a> Model for Records<'a> {
 
     ghost use Rattle.edit_forms.specs.Records.{IsPlain, from_here, unread};
 
-    ghost view = { λ records. from_here records.found (fields_of records.at_hand) (unread records.reader) };
+    ghost view = { λ records. from_here records.found (fields_of records.at_hand) (unread records.reader.value) };
 
-    ghost invariant = { λ records. records.found ≡ true → IsPlain records.reader };
+    ghost invariant = { λ records. records.found ≡ true → IsPlain records.reader.value };
 }
 
 impl<'a> Records<'a> {
@@ -41,10 +41,8 @@ impl<'a> Records<'a> {
         ensures ok { IfOk result (λ all. all ≡ records default_config (strip_bom body.now)) }
         ensures err { IfErr result (λ fault. fault ≡ FormFault.Memory) }
     {
-        let mut reader = ReaderBuilder::new()
-            .has_headers(false)
-            .flexible(true)
-            .from_reader(alloc, body);
+        // in a box, since the reader holds tables of some thousand bytes, which would be copied at each move
+        let mut reader = Box::new(alloc, plain_reader(alloc, body))?;
         let mut at_hand = ByteRecord::new(alloc);
         let found = read_next(&mut reader, &mut at_hand)?;
         Ok(Records {
@@ -123,6 +121,17 @@ fn is_header(fields: &ByteRecord) -> bool
         Some(columns) => columns.is_header(),
         None => false,
     }
+}
+
+/// A reader of the records of a body, of any length, none of which is a header.
+fn plain_reader(alloc: Global, body: &[u8]) -> Reader<&[u8]>
+    ensures plain { IsPlain result }
+    ensures unread { unread result ≡ records default_config (strip_bom body.now) }
+{
+    ReaderBuilder::new()
+        .has_headers(false)
+        .flexible(true)
+        .from_reader(alloc, body)
 }
 
 /// Reads the next record into `into`, if there is one.

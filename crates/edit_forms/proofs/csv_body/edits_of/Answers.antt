@@ -10,7 +10,7 @@ use Rattle.edit_forms.proofs.csv_body.edits_of.Goals as goal
 
 pub returns-in_err-edit-clause-err : goal.returns-in_err-edit-clause-err
 returns-in_err-edit-clause-err c =
-    let p = err_from_is_err_and c.from_residual.result c.from_residual.ensures.1 in
+    let p = err_from_is_err_and c.from_residual-in_err-edit.result c.from_residual-in_err-edit.ensures.1 in
     rw (p.1, p.2) (λ other.
     first_fault c.args.records.now c.loop-at_hand.edits.items c.in_err-edit.field-0.0 (vec_len c.loop-at_hand.edits + 1)
     c.loop-at_hand.records

@@ -9,7 +9,7 @@ use Rattle.edit_forms.proofs.json_body.edits_of.Goals as goal
 
 pub returns-in_err-edit-clause-err : goal.returns-in_err-edit-clause-err
 returns-in_err-edit-clause-err c =
-    let p = err_from_is_err_and c.from_residual.result c.from_residual.ensures.1 in
+    let p = err_from_is_err_and c.from_residual-in_err-edit.result c.from_residual-in_err-edit.ensures.1 in
     rw (p.1, p.2) (λ other.
     item_fault c.loop-place.edits.items c.in_err-edit.field-0.0 c.args.items.now c.loop-place.place
     c.index-items-place.result
