@@ -1,9 +1,13 @@
 -- The first rule that an edit breaks is of its network, of its PIDs, or its own.
-use Rattle.std.proofs.Common.{◌≡◌, refl, ap, sym, ◌∙◌}
-use Rattle.std.specs.Prelude.{ℕ, Bool, true, false, not, ◌&&◌, ◌||◌, cond, List, [], ◌∷◌, Option, Some, None}
+use Rattle.std.proofs.Common.{◌≡◌, ◌≤◌, ◌<◌, refl, ap, sym, ◌∙◌, arith, tests}
+use Rattle.std.proofs.lemmas.List.Sums.{count_by-le-length, length-filter}
+use Rattle.std.specs.Prelude.{ℕ, nat_le, length, Bool, true, false, not, ◌&&◌, ◌||◌, cond, List, [], ◌∷◌}
+use Rattle.std.specs.Prelude.{Option, Some, None}
 use Rattle.std.specs.List.{list_any}
 use Rattle.alto_rows.specs.declared.key.Key.TheVariants as key
+use Rattle.alto_rows.specs.declared.span.Span.{Span}
 use Rattle.alto_rows.specs.Rows.{Rows, has_row}
+use Rattle.alto_rows.specs.Span.{count_in, is_in}
 use Rattle.alto_edits.specs.declared.edit.Edit.{Edit}
 use Rattle.alto_edits.specs.declared.edit.Edit.TheVariants as edit
 use Rattle.alto_edits.specs.declared.rule.Rule.{Rule}
@@ -135,3 +139,10 @@ next_cost_lacks rows net metric source destination =
         → first_broken ((rule.G12, cost) ∷ []) ≡ first_broken ((rule.G6, pid) ∷ (rule.G12, cost && full) ∷ [])
     by pid true full known room = rw (known, room) refl
     by pid false full known room = rw known refl
+
+-- where there are fewer rows than there may be of something, there is room for it
+pub few_rows : (rows : Rows) (of : Span) (most : ℕ) → length rows < most → false ≡ nat_le most (count_in rows of)
+few_rows rows of most few =
+    let within : count_in rows of ≤ length rows =
+    rw (length-filter (λ row. is_in of row.0) rows) (count_by-le-length (λ row. is_in of row.0) rows) in
+    grind (arith, tests)

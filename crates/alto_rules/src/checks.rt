@@ -81,11 +81,14 @@ impl<'a, R: RowStore> Draft<'a, R> {
         Ok(rule)
     }
 
-    /// Whether a metric has as many costs as it may have.
+    /// Whether a metric has as many costs as it may have. No search where there are fewer rows.
     fn has_most_costs(&self, net: &NetName, metric: &Metric) -> Result<bool, AllocError>
         ensures { IfOk result (λ is. (src dst : List ℕ)
             → is ≡ is_full (drafted_rows self.now) (keys.Cost net.now metric.now src dst) 262144) }
     {
+        if self.total() < MOST_COSTS {
+            return Ok(false);
+        }
         let costs = Counted::Costs(net.clone()?, metric.clone()?);
         let has_most = self.has_most(&costs, MOST_COSTS);
         drop(costs);

@@ -106,7 +106,9 @@ fn prepared<'a, R: RowStore>(
             destination,
             ..
         } => {
-            let follows = draft.last_origin(net, metric, source).is_some();
+            // asked only where no PIDs are known, since nothing else depends on it
+            let follows = draft.kept.pids.is_empty()
+                && draft.last_origin(net, metric, source).is_some();
             draft.seeking(net, destination, follows)
         }
         _ => Ok(draft),

@@ -64,10 +64,16 @@ impl<'a, R: RowStore> Draft<'a, R> {
         has_row(self.rows, key, self.kept.index.has(key))
     }
 
-    /// Whether a PID is declared after the writes. Two searches where it is the PID that was sought, else three.
+    /// Whether a PID is declared after the writes. One comparison where it is the PID that was sought and the writes
+    /// put keys in their order; else two searches where it is that PID, and three where it isn't.
     pub fn has_pid(&self, net: &NetName, pid: &PidName) -> Result<bool, AllocError>
         ensures { IfOk result (λ has. has ≡ has_row (drafted_rows self.now) (key.Pid net.now pid.now)) }
     {
+        if self.kept.index.written.only_puts() {
+            if first_pid(self.kept.pids, net, pid).is_some() {
+                return Ok(true);
+            }
+        }
         let key = pid_key(net, pid)?;
         let has = match self.kept.index.has(&key) {
             None if first_pid(self.kept.pids, net, pid).is_some() => true,

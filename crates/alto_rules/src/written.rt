@@ -41,6 +41,13 @@ impl Written {
         }
     }
 
+    /// Whether each write put a key behind all before it, so that all written keys have rows.
+    pub fn only_puts(&self) -> bool
+        ensures { IsTrue result → length self.now.other.entries ≡ 0 }
+    {
+        self.other.is_empty()
+    }
+
     /// A written key as it is kept. Two searches.
     pub fn stored(&self, key: &Key) -> Option<&Key>
         ensures { IfSome result (λ at. at.now ≡ key.now) }
