@@ -149,12 +149,12 @@ numbers_next number xs numbered =
 
 -- a source is put between, with a list that another one has, or a new one under the number
 pub numbers_put : (number : ℕ) (xs ys : Sources) (x : Name × Listed) (place : ℕ)
-    → IsSharedOrNew (option_map (λ source. source.1.list) (slice_get xs place)) number x.1.list
+    → IsSharedOrNew (option_map (λ source. source.1.list) (slice_get (xs ++ ys) place)) number x.1.list
     → AreNumbered number (xs ++ ys)
     → AreNumbered (number + 1) ((xs ++ x ∷ []) ++ ys)
-numbers_put number xs ys x place (inl shared) numbered = by (slice_get xs place) refl shared
+numbers_put number xs ys x place (inl shared) numbered = by (slice_get (xs ++ ys) place) refl shared
   where
-    by : (found : Option (Name × Listed)) → slice_get xs place ≡ found
+    by : (found : Option (Name × Listed)) → slice_get (xs ++ ys) place ≡ found
         → option_map (λ source. source.1.list) found ≡ Some x.1.list
         → AreNumbered (number + 1) ((xs ++ x ∷ []) ++ ys)
     by None there shared = cc
@@ -163,12 +163,11 @@ numbers_put number xs ys x place (inl shared) numbered = by (slice_get xs place)
         let names_of = numbered.numbers.names_of in
         let same : x.1.list.names ≡ names_of x.1.list.number =
         subst (λ (list : Numbered). list.names ≡ names_of list.number) is
-        (all_at (λ source. source.1.list.names ≡ names_of source.1.list.number) xs place like
-        (all_left (λ source. source.1.list.names ≡ names_of source.1.list.number) xs ys numbered.numbers.same) there) in
+        (all_at (λ source. source.1.list.names ≡ names_of source.1.list.number) (xs ++ ys) place like
+        numbered.numbers.same there) in
         let below : x.1.list.number < number =
         subst (λ (list : Numbered). list.number < number) is
-        (all_at (λ source. source.1.list.number < number) xs place like
-        (all_left (λ source. source.1.list.number < number) xs ys numbered.below) there) in
+        (all_at (λ source. source.1.list.number < number) (xs ++ ys) place like numbered.below there) in
         numbers_next number ((xs ++ x ∷ []) ++ ys)
         (record {
           numbers = record {

@@ -1,5 +1,5 @@
 -- Names and costs in two lists of one length, told as a list of pairs.
-use Rattle.std.proofs.Common.{◌≡◌, ℕ, zero, suc, ◌<◌, refl, ap, sym, ◌∙◌, arith}
+use Rattle.std.proofs.Common.{◌≡◌, ℕ, zero, suc, ◌<◌, ◌≤◌, refl, ap, sym, ◌∙◌, append_assoc, arith}
 use Rattle.std.proofs.lemmas.Bool.{and_parts}
 use Rattle.std.proofs.lemmas.List.{map-append}
 use Rattle.std.proofs.Math.ListN.{get_or-map}
@@ -8,17 +8,20 @@ use Rattle.std.proofs.lemmas.Option.{slice_get_past}
 use Rattle.std.specs.Cmp.Lexicographic.{pointwise}
 use Rattle.std.specs.Prelude.{true, List, [], ◌∷◌, ◌++◌, Option, Some, None, Result, Ok, Err, length}
 use Rattle.std.specs.Prelude.{option_map, slice_get, zip}
-use Rattle.std.specs.List.{HoldsAt}
+use Rattle.std.specs.List.{HoldsAt, filter_map}
 use Rattle.std.specs.List.Sorted.{IsBinarySearchResult, IsNonDecreasingBy, IsPartitionPoint, IsSearchInRange}
 use Rattle.std.specs.List.Sorted.{IsStrictlySortedBy}
 use Rattle.std.specs.Map.{keys_of}
 use Rattle.std.specs.Ordering.{ordering_index}
 use Rattle.std.specs.declared.cmp.Ordering.{Ordering}
 use Rattle.std.specs.declared.cmp.Ordering.TheVariants.{Less, Equal, Greater}
+use Rattle.alto_rows.specs.declared.key.Key.{Key}
+use Rattle.alto_rows.specs.declared.value.Value.{Value}
 use Rattle.alto_rows.specs.Order.{name_cmp, same_name}
+use Rattle.alto_rows.specs.Rows.{Rows}
 use Rattle.alto_rows.proofs.TouchesLemmas.{one_name}
 use Rattle.cost_tables.specs.Lists.{ArePlaces, IsPlace}
-use Rattle.cost_tables.specs.Tables.{Costs, Name, cost_to}
+use Rattle.cost_tables.specs.Tables.{Costs, Name, cost_given, cost_to}
 use Rattle.cost_tables.proofs.FromLemmas.{cost_to-place}
 use Rattle.cost_tables.proofs.SearchLemmas.{found, lookup_from_search}
 
@@ -30,6 +33,49 @@ zip_push [] (first ∷ costs) name cost even = absurd (omega arith)
 zip_push (first ∷ names) [] name cost even = absurd (omega arith)
 zip_push (first ∷ names) (one ∷ costs) name cost even =
     ap (λ more. (first, one) ∷ more) (zip_push names costs name cost (omega arith))
+
+pub zip_none : (names : List Name) → zip {X = ℕ} names [] ≡ []
+zip_none [] = refl
+zip_none (name ∷ names) = refl
+
+-- one at the next place of the names
+pub zip_next : (names : List Name) (costs more : List ℕ) (name : Name) (cost : ℕ)
+    → slice_get names (length costs) ≡ Some name → more ≡ costs ++ cost ∷ []
+    → zip names more ≡ zip names costs ++ (name, cost) ∷ []
+zip_next names costs more name cost next is = ap (zip names) is ∙ by names costs next
+  where
+    by : (names : List Name) (costs : List ℕ) → slice_get names (length costs) ≡ Some name
+        → zip names (costs ++ cost ∷ []) ≡ zip names costs ++ (name, cost) ∷ []
+    by [] [] next = cc
+    by [] (one ∷ costs) next = cc
+    by (first ∷ names) [] next =
+        let same : first ≡ name = cc in
+        ap (λ (k : Name). (k, cost) ∷ zip names []) same
+        ∙ ap (λ (rest : Costs). (name, cost) ∷ rest) (zip_none names)
+    by (first ∷ names) (one ∷ costs) next = ap (λ more. (first, one) ∷ more) (by names costs next)
+
+-- it is among them
+pub next_within : (names : List Name) (costs more : List ℕ) (name : Name) (cost : ℕ)
+    → slice_get names (length costs) ≡ Some name → more ≡ costs ++ cost ∷ [] → length more ≤ length names
+next_within names costs more name cost next is = rw is (by names costs next)
+  where
+    by : (names : List Name) (costs : List ℕ) → slice_get names (length costs) ≡ Some name
+        → length (costs ++ cost ∷ []) ≤ length names
+    by [] [] next = cc
+    by [] (one ∷ costs) next = cc
+    by (first ∷ names) [] next = omega arith
+    by (first ∷ names) (one ∷ costs) next = let within = by names costs next in omega arith
+
+-- what a walk gives with one row less, which is of the next name
+pub walked_next : (names : List Name) (costs more : List ℕ) (name : Name) (cost : ℕ) (row : Key × Value)
+    (rest rows : Rows) (whole : Costs)
+    → rows ≡ row ∷ rest → cost_given row ≡ Some (name, cost) → slice_get names (length costs) ≡ Some name
+    → more ≡ costs ++ cost ∷ []
+    → zip names costs ++ filter_map cost_given rows ≡ whole → zip names more ++ filter_map cost_given rest ≡ whole
+walked_next names costs more name cost row rest rows whole steps given next is all =
+    rw (zip_next names costs more name cost next is)
+    (append_assoc (zip names costs) ((name, cost) ∷ []) (filter_map cost_given rest)
+    ∙ (rw (steps, given) at all))
 
 -- their names
 pub keys_of-zip : (names : List Name) (costs : List ℕ) → length costs ≡ length names → keys_of (zip names costs) ≡ names

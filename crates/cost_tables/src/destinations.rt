@@ -1,5 +1,5 @@
 //! Destinations that sources share.
-ghost use Rattle.std.specs.Prelude.{◌≡◌, true, OnOk};
+ghost use Rattle.std.specs.Prelude.{◌≡◌, true, OnOk, Some, slice_get};
 ghost use Rattle.std.specs.List.Sorted.{IsStrictlySortedBy};
 ghost use Rattle.alto_rows.specs.Order.{name_cmp};
 ghost use Rattle.cost_tables.specs.Lists.{ArePlaces, IsPlace};
@@ -44,11 +44,11 @@ impl Destinations {
         self.number
     }
 
-    /// Whether the names are these. One comparison of two names for each.
-    pub(crate) fn are(&self, names: &Vec<PidName>) -> bool
-        ensures { result ≡ true → self.now.names ≡ names.now.items }
+    /// The names.
+    pub(crate) fn names(&self) -> &[PidName]
+        ensures { result.now ≡ self.now.names }
     {
-        self.names == *names
+        &self.names
     }
 
     /// Finds where destinations stand, past all names where one isn't there. One comparison of two names for each that
@@ -84,20 +84,10 @@ impl Destinations {
     fn place(&self, destination: &PidName, guess: usize) -> usize
         ensures { IsPlace self.now.names destination.now result }
     {
-        if self.has_at(guess, destination) {
+        if stands_at(&self.names, guess, destination) {
             return guess;
         }
         self.search(destination)
-    }
-
-    /// Whether a destination stands at a place.
-    fn has_at(&self, place: usize, destination: &PidName) -> bool
-        ensures { result ≡ true → IsPlace self.now.names destination.now place }
-    {
-        match self.names.get(place) {
-            Some(name) => name == destination,
-            None => false,
-        }
     }
 
     /// Where a destination stands, past all names if it isn't there. One binary search.
@@ -108,5 +98,15 @@ impl Destinations {
             Ok(place) => place,
             Err(_) => self.names.len(),
         }
+    }
+}
+
+/// Whether a destination stands at a place.
+pub(crate) fn stands_at(destinations: &[PidName], place: usize, destination: &PidName) -> bool
+    ensures { result ≡ true → slice_get destinations.now place ≡ Some destination.now }
+{
+    match destinations.get(place) {
+        Some(name) => name == destination,
+        None => false,
     }
 }

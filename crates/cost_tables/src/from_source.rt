@@ -1,6 +1,6 @@
 //! The costs in a metric from one source.
-ghost use Rattle.std.specs.Prelude.{◌≡◌, ◌++◌, ◌∷◌, [], IfOk, OnOk, List, length, map, nat_eq, option_map};
-ghost use Rattle.std.specs.Prelude.{slice_get, zip};
+ghost use Rattle.std.specs.Prelude.{◌≡◌, ◌++◌, ◌∷◌, [], true, IfOk, IfSome, OnOk, List, Some, length, map, nat_eq};
+ghost use Rattle.std.specs.Prelude.{option_map, slice_get, zip};
 ghost use Rattle.std.specs.Arc.{arc_value};
 ghost use Rattle.std.specs.List.{filter_map};
 ghost use Rattle.std.specs.List.Sorted.{IsStrictlySortedBy};
@@ -9,7 +9,7 @@ ghost use Rattle.alto_rows.specs.Rows.{AreSorted};
 ghost use Rattle.cost_tables.specs.Lists.{ArePlaces, IsSharedOrNew};
 ghost use Rattle.cost_tables.specs.Tables.{Name, cost_given, cost_to, costs_from};
 
-use crate::destinations::Destinations;
+use crate::destinations::{Destinations, stands_at};
 use alto_names::{Metric, NetName, PidName};
 use alto_rows::{Key, RowStore, Span, Value, Within, rows_in};
 use std::alloc::{AllocError, Global};
@@ -48,7 +48,8 @@ impl Model for FromSource {
 
 impl FromSource {
     /// Those that rows give. One search, and one walk over the source's rows. The list of the destinations is shared
-    /// with a source that has the same, which takes one comparison of two names for each; else it gets this number.
+    /// with a source that has the same, which takes one comparison of two names for each; else a second walk makes one
+    /// with this number.
     pub(crate) fn of<R: RowStore>(
         alloc: Global,
         rows: &R,
@@ -65,10 +66,10 @@ impl FromSource {
         ensures list { IfOk result (λ from.
             IsSharedOrNew (option_map (λ from. from.now.1.list) like.entry) number from.1.list) }
     {
-        let (destinations, costs) = costs_from(alloc, rows, net, metric, source)?;
+        let (list, costs) = listed(alloc, rows, net, metric, source, like, number)?;
         Ok(FromSource {
             source: source.clone()?,
-            list: listed(alloc, like, number, destinations)?,
+            list,
             costs,
         })
     }
@@ -140,6 +141,84 @@ fn number_at(numbers: &[u64], place: usize) -> Option<u64>
     Some(*numbers.get(place)?)
 }
 
+/// The list of the destinations of the costs from a source that rows give, and the costs. The list is that of another
+/// source where it has the same, else a new one with this number.
+fn listed<R: RowStore>(
+    alloc: Global,
+    rows: &R,
+    net: &NetName,
+    metric: &Metric,
+    source: &PidName,
+    like: Option<&FromSource>,
+    number: u64,
+) -> Result<(Arc<Destinations>, Vec<u64>), AllocError>
+    requires { AreSorted (R.rows rows.now) }
+    ensures told { IfOk result (λ lists. zip (arc_value lists.0).names lists.1.items
+        ≡ costs_from (R.rows rows.now) net.now metric.now source.now) }
+    ensures even { IfOk result (λ lists. length lists.1.items ≡ length (arc_value lists.0).names) }
+    ensures list { IfOk result (λ lists.
+        IsSharedOrNew (option_map (λ from. from.now.1.list) like.entry) number (arc_value lists.0)) }
+{
+    if let Some(from) = like {
+        if let Some(costs) = costs_to(alloc, rows, net, metric, source, from.list.names())? {
+            return Ok((Arc::try_clone(&from.list)?, costs));
+        }
+    }
+    let (destinations, costs) = costs_from(alloc, rows, net, metric, source)?;
+    Ok((
+        Arc::new(alloc, Destinations::new(number, destinations))?,
+        costs,
+    ))
+}
+
+/// The costs from a source that rows give, where they are to these destinations.
+fn costs_to<R: RowStore>(
+    alloc: Global,
+    rows: &R,
+    net: &NetName,
+    metric: &Metric,
+    source: &PidName,
+    destinations: &[PidName],
+) -> Result<Option<Vec<u64>>, AllocError>
+    ensures told { IfOk result (λ found. IfSome found (λ costs. zip destinations.now costs.items
+        ≡ costs_from (R.rows rows.now) net.now metric.now source.now)) }
+    ensures even { IfOk result (λ found. IfSome found (λ costs. length costs.items ≡ length destinations.now)) }
+{
+    let span = Span::CostsFrom(net.clone()?, metric.clone()?, source.clone()?);
+    let mut walk = rows_in(rows, span);
+    let costs = costs_walked_to(alloc, &mut walk, destinations);
+    // By a call: a walk that goes out of scope is dear to prove.
+    drop(walk);
+    costs
+}
+
+/// The costs that the rows of a walk give, where they are to these destinations, with no spare room. One comparison of
+/// two names for each.
+fn costs_walked_to<R: RowStore>(
+    alloc: Global,
+    walk: &mut Within<R>,
+    destinations: &[PidName],
+) -> Result<Option<Vec<u64>>, AllocError>
+    ensures told { IfOk result (λ found. IfSome found (λ costs.
+        zip destinations.now costs.items ≡ filter_map cost_given walk.old)) }
+    ensures even { IfOk result (λ found. IfSome found (λ costs. length costs.items ≡ length destinations.now)) }
+{
+    let mut costs = Vec::with_capacity(alloc, destinations.len())?;
+    while let Some(row) = walk.next() {
+        if let (Key::Cost(_, _, _, destination), Value::Num(cost)) = (&row.0, &row.1) {
+            if !stands_at(destinations, costs.len(), destination) {
+                return Ok(None);
+            }
+            costs.push(*cost)?;
+        }
+    }
+    if costs.len() == destinations.len() {
+        Ok(Some(costs))
+    } else {
+        Ok(None)
+    }
+}
+
 /// The destinations of the costs from a source that rows give, and the costs, with no spare room.
 fn costs_from<R: RowStore>(
     alloc: Global,
@@ -197,24 +276,4 @@ fn push(
     destinations.push(destination.clone()?)?;
     costs.push(cost)?;
     Ok(())
-}
-
-/// A list of these destinations: that of a source with the same, if there is one, else a new one with this number.
-fn listed(
-    alloc: Global,
-    like: Option<&FromSource>,
-    number: u64,
-    names: Vec<PidName>,
-) -> Result<Arc<Destinations>, AllocError>
-    requires { IsStrictlySortedBy name_cmp names.items }
-    ensures names { IfOk result (λ list. (arc_value list).names ≡ names.items) }
-    ensures list { IfOk result (λ list.
-        IsSharedOrNew (option_map (λ from. from.now.1.list) like.entry) number (arc_value list)) }
-{
-    if let Some(from) = like {
-        if from.list.are(&names) {
-            return Arc::try_clone(&from.list);
-        }
-    }
-    Ok(Arc::new(alloc, Destinations::new(number, names))?)
 }

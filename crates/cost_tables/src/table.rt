@@ -120,7 +120,7 @@ impl Table {
         let mut next = self.next;
         for source in sources {
             left = share_before(source, left, &mut renewed)?;
-            put_standing(alloc, rows, net, metric, source, next, &mut renewed)?;
+            put_standing(alloc, rows, net, metric, source, next, left, &mut renewed)?;
             next = following(next)?;
         }
         share(left, &mut renewed)?;
@@ -161,7 +161,8 @@ fn following(number: u64) -> Result<u64, AllocError>
     number.checked_add(1).ok_or(AllocError)
 }
 
-/// Puts the costs from a source that rows give, where there are any. A new list of its destinations gets this number.
+/// Puts the costs from a source that rows give, where there are any, before the sources that are left. A new list of
+/// its destinations gets this number.
 fn put_standing<R: RowStore>(
     alloc: Global,
     rows: &R,
@@ -169,28 +170,44 @@ fn put_standing<R: RowStore>(
     metric: &Metric,
     source: &PidName,
     number: u64,
+    left: &[Arc<FromSource>],
     sources: &mut Vec<Arc<FromSource>>,
 ) -> Result<(), AllocError>
     requires { AreSorted (R.rows rows.now) }
     ensures costs { OnOk result (table_of (map arc_value sources.new.items)
         ≡ table_of (map arc_value sources.old.items)
         ++ made.standing source.now (costs_from (R.rows rows.now) net.now metric.now source.now)) }
-    ensures lists { OnOk result ((left : Sources) → AreNumbered number (map arc_value sources.old.items ++ left)
-        → AreNumbered (number + 1) (map arc_value sources.new.items ++ left)) }
+    ensures lists { OnOk result (
+        AreNumbered number (map arc_value sources.old.items ++ map arc_value left.now)
+        → AreNumbered (number + 1) (map arc_value sources.new.items ++ map arc_value left.now)) }
 {
-    let from = FromSource::of(alloc, rows, net, metric, source, last(sources), number)?;
+    let like = beside(sources, left);
+    let from = FromSource::of(alloc, rows, net, metric, source, like, number)?;
     if !from.is_empty() {
         sources.push(Arc::new(alloc, from)?)?;
     }
     Ok(())
 }
 
-/// The last source.
-fn last(sources: &[Arc<FromSource>]) -> Option<&FromSource>
+/// The last source before a place, else the first behind it.
+fn beside<'a>(
+    before: &'a [Arc<FromSource>],
+    behind: &'a [Arc<FromSource>],
+) -> Option<&'a FromSource>
     ensures { option_map (λ from. from.now) result
-        ≡ slice_get (map arc_value sources.now) (length sources.now - 1) }
+        ≡ slice_get (map arc_value before.now ++ map arc_value behind.now) (length before.now - 1) }
 {
-    match sources.last() {
+    match before.last() {
+        Some(from) => Some(&**from),
+        None => first(behind),
+    }
+}
+
+/// The first source.
+fn first(sources: &[Arc<FromSource>]) -> Option<&FromSource>
+    ensures { option_map (λ from. from.now) result ≡ slice_get (map arc_value sources.now) 0 }
+{
+    match sources.first() {
         Some(from) => Some(&**from),
         None => None,
     }

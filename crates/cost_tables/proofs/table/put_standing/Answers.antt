@@ -15,21 +15,22 @@ list_told None told = refl
 list_told (Some one) told = refl
 
 pub returns-in_ok-push-clause-lists : goal.returns-in_ok-push-clause-lists
-returns-in_ok-push-clause-lists g c left numbered =
+returns-in_ok-push-clause-lists g c numbered =
     let before : Sources = map arc_value c.args.sources.now.items in
+    let left : Sources = map arc_value c.args.left.now in
     let from = c.in_ok-from.from in
     let place = length c.deref.result.now - 1 in
     let pushed : map arc_value c.push.new.self.items ≡ before ++ from ∷ [] =
     ap (λ sources. map arc_value sources) c.in_ok-push.ensures.items
     ∙ (map-append arc_value c.args.sources.now.items (c.in_ok-new.field-0 ∷ [])
     ∙ ap (λ (one : Name × Listed). before ++ one ∷ []) c.in_ok-new.ensures.ok) in
-    let like = list_told c.last.result (λ from. from.now)
-    ∙ ap (λ (found : Option (Name × Listed)). option_map (λ source. source.1.list) found) (c.last.ensures
-    ∙ ap (λ sources. slice_get (map arc_value sources) place) c.deref.ensures.value) in
-    let last = option_map (λ source. source.1.list) (slice_get before place) in
-    let shared : IsSharedOrNew last c.args.number from.1.list =
+    let like = list_told c.beside-like.result (λ from. from.now)
+    ∙ ap (λ (found : Option (Name × Listed)). option_map (λ source. source.1.list) found) (c.beside-like.ensures
+    ∙ ap (λ sources. slice_get (map arc_value sources ++ left) place) c.deref.ensures.value) in
+    let beside = option_map (λ source. source.1.list) (slice_get (before ++ left) place) in
+    let shared : IsSharedOrNew beside c.args.number from.1.list =
     subst (λ (like : Option Numbered). IsSharedOrNew like c.args.number from.1.list) like c.in_ok-from.ensures.list in
     rw pushed (numbers_put c.args.number before left from place shared numbered)
 
 pub returns-else-not-is_empty-clause-lists : goal.returns-else-not-is_empty-clause-lists
-returns-else-not-is_empty-clause-lists g c left numbered = numbers_next c.args.number _ numbered
+returns-else-not-is_empty-clause-lists g c numbered = numbers_next c.args.number _ numbered

@@ -33,7 +33,7 @@ loop-source-preserved g c =
       told_put costs name names old shared new left rest (renewed costs c.args.sources.now (table_of c.args.self.now))
           c.in_ok-left.ensures.shared c.in_ok-left.ensures.left c.in_ok-put_standing.ensures.costs
           (rw step at c.loop-source.invariant.0),
-      rw c.in_ok-next.ensures (c.in_ok-put_standing.ensures.lists rest numbered),
+      rw c.in_ok-next.ensures (c.in_ok-put_standing.ensures.lists numbered),
     )
 
 pub invariant_of-result : goal.invariant_of-result

@@ -1,10 +1,10 @@
 use Rattle.std.proofs.Common.{◌≡◌, length}
 use Rattle.cost_tables.proofs.FromLemmas.{rise-costs_from}
 use Rattle.cost_tables.proofs.PairLemmas.{keys_of-zip}
-use Rattle.cost_tables.proofs.from_source.FromSource.of.Goals as goal
+use Rattle.cost_tables.proofs.from_source.listed.Goals as goal
 
-pub listed-requires : goal.listed-requires
-listed-requires g c =
+pub new-requires : goal.new-requires
+new-requires g c =
     let names = c.in_ok-destinations.destinations.items in
     let costs = c.in_ok-destinations.costs.items in
     let rows = g.R.RowStore.rows c.args.rows.now in
