@@ -8,3 +8,5 @@ pub mod FilterLemmas
 pub mod PairsLemmas
 pub mod TextLemmas
 pub mod PlainLemmas
+pub mod StartsLemmas
+pub mod ShownLemmas

@@ -286,6 +286,15 @@ any_more name None left later after old new put =
 any_more name (Some d) left later after old new put =
     rw (put.text, put.behind, or_true later) (simp append_assoc refl)
 
+-- the group that was put, if there is one, before those of the sources that are left
+pub group_more : (group : Name → Option Data) (src : Name) (srcs left : List Name) (later after : Bool)
+    (old new whole : List ℕ) → srcs ≡ src ∷ left → PutsIfAny src (group src) later old after new
+    → old ++ members_text later (members_in_order (valued group srcs)) ≡ whole
+    → new ++ members_text after (members_in_order (valued group left)) ≡ whole
+group_more group src srcs left later after old new whole step put is =
+    any_more src (group src) (valued group left) later after old new put
+    ∙ (ap (λ (names : List Name). old ++ members_text later (members_in_order (valued group names))) (sym step) ∙ is)
+
 none_left : (multi : Bool) (dsts : List Name) → shown_members multi dsts [] ≡ []
 none_left multi [] = refl
 none_left multi (dst ∷ dsts) = refl

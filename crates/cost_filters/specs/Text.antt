@@ -1,5 +1,5 @@
 -- The text of the groups of a filtered cost map (RFC 8259), with no space.
-use Rattle.std.specs.Prelude.{◌≡◌, ℕ, List, [], ◌∷◌, ◌++◌, Bool, not, ◌&&◌, ◌||◌, ◌==◌, nat_lt, Option, Some, None}
+use Rattle.std.specs.Prelude.{◌≡◌, ℕ, List, [], ◌∷◌, ◌++◌, Bool, true, not, ◌&&◌, ◌||◌, ◌==◌, nat_lt, Option, Some, None}
 use Rattle.std.specs.Prelude.{is_some, if◌then◌else◌}
 use Rattle.std.specs.List.{list_any}
 use Rattle.json.specs.Print.{quoted}
@@ -23,6 +23,10 @@ is_plain b = not (nat_lt b 32) && not (b == 34) && not (b == 92)
 abbrev pub member_if_any : Bool → Name → Option Data → List ℕ
 member_if_any later name (Some value) = comma_if later ++ (quoted name ++ 58 ∷ compact_text value)
 member_if_any later name None = []
+
+-- the name of a member behind a comma, with its colon
+abbrev pub member_start : Name → List ℕ
+member_start name = comma_if true ++ (quoted name ++ 58 ∷ [])
 
 -- such a member is put at the end of bytes, and whether one stands before the next is told
 pub record PutsIfAny (name : Name) (value : Option Data) (later : Bool) (old : List ℕ) (after : Bool) (new : List ℕ)

@@ -1,5 +1,5 @@
 //! The filtered cost map as JSON text, written without a tree.
-ghost use Rattle.std.specs.Prelude.{◌≡◌, ◌++◌, [], ◌∷◌, false, codes, IfOk, OnOk, option_map};
+ghost use Rattle.std.specs.Prelude.{◌≡◌, ◌++◌, [], ◌∷◌, Some, None, false, codes, IfOk, OnOk, option_map};
 ghost use Rattle.std.specs.Cmp.Lexicographic.{slice_cmp};
 ghost use Rattle.std.specs.List.Sorted.{IsStrictlySortedBy};
 ghost use Rattle.std.specs.Ordering.{nat_cmp};
@@ -19,6 +19,7 @@ ghost use Rattle.cost_filters.specs.Pairs.{pair_shown};
 ghost use Rattle.cost_filters.specs.Text.{PutsIfAny, group_made, found_object, shown_members};
 
 use crate::ask::CostAsk;
+use crate::destinations::Destinations;
 use crate::found::Found;
 use crate::names::{names_given, srcs_of};
 use crate::pairs::Pairs;
@@ -127,7 +128,7 @@ fn push_section<R: RowStore>(
     let srcs = srcs_of(alloc, rows, net, &ask.srcs)?;
     let given = names_given(alloc, &ask.dsts)?;
     out.push(b'{')?;
-    push_groups(alloc, &pairs, ask.multi, &srcs, &given, out)
+    push_groups(alloc, &pairs, ask.multi, &srcs, given, out)
 }
 
 /// Puts the groups of those of these sources that have a pair, with the brace behind them.
@@ -136,23 +137,43 @@ fn push_groups<R: RowStore>(
     pairs: &Pairs<R>,
     multi: bool,
     srcs: &[PidName],
-    given: &Option<Vec<PidName>>,
+    given: Option<Vec<PidName>>,
     out: &mut Vec<u8>,
 ) -> Result<(), AllocError>
-    requires { AreSetIfAny (option_map (λ names. names.items) given.now) }
+    requires { AreSetIfAny (option_map (λ names. names.items) given) }
     ensures { OnOk result (out.new.items ≡ out.old.items ++ members_text false (members_in_order
-        (valued (group_made multi (option_map (λ names. names.items) given.now) pairs.now) srcs.now))) }
+        (valued (group_made multi (option_map (λ names. names.items) given) pairs.now) srcs.now))) }
 {
+    match given {
+        Some(names) => push_given(alloc, pairs, multi, srcs, names, out),
+        None => push_reached(alloc, pairs, multi, srcs, out),
+    }
+}
+
+/// Puts them where the names of the destinations are given.
+fn push_given<R: RowStore>(
+    alloc: Global,
+    pairs: &Pairs<R>,
+    multi: bool,
+    srcs: &[PidName],
+    names: Vec<PidName>,
+    out: &mut Vec<u8>,
+) -> Result<(), AllocError>
+    requires { IsStrictlySortedBy (slice_cmp nat_cmp) names.items }
+    ensures { OnOk result (out.new.items ≡ out.old.items ++ members_text false (members_in_order
+        (valued (group_made multi (Some names.items) pairs.now) srcs.now))) }
+{
+    let dsts = Destinations::none(alloc).renewed(names)?;
     let mut places = Places::new(alloc);
     let mut room = Found::none(alloc);
     let mut later = false;
     for src in srcs {
-        let (after, found) = push_group(
+        let (after, found) = push_among(
             alloc,
             pairs,
             multi,
             src,
-            given,
+            &dsts,
             &mut places,
             room,
             later,
@@ -165,40 +186,50 @@ fn push_groups<R: RowStore>(
     Ok(())
 }
 
-/// Puts the group of a source, if it has a pair. Tells whether a group stands before the next, and gives what was
-/// found, whose memory is used again.
-fn push_group<R: RowStore>(
+/// Puts them with all destinations that a source reaches. Where these are those of the source before, the texts of
+/// their names are used again.
+fn push_reached<R: RowStore>(
     alloc: Global,
     pairs: &Pairs<R>,
     multi: bool,
-    src: &PidName,
-    given: &Option<Vec<PidName>>,
-    places: &mut Places,
-    room: Found,
-    later: bool,
+    srcs: &[PidName],
     out: &mut Vec<u8>,
-) -> Result<(bool, Found), AllocError>
-    requires { AreSetIfAny (option_map (λ names. names.items) given.now) }
-    ensures { IfOk result (λ put. PutsIfAny src.now
-        (group_made multi (option_map (λ names. names.items) given.now) pairs.now src.now)
-        later out.old.items put.0 out.new.items) }
+) -> Result<(), AllocError>
+    ensures { OnOk result (out.new.items ≡ out.old.items ++ members_text false (members_in_order
+        (valued (group_made multi None pairs.now) srcs.now))) }
 {
-    match given {
-        Some(dsts) => push_among(alloc, pairs, multi, src, dsts, places, room, later, out),
-        None => {
-            let dsts = pairs.reached(alloc, src)?;
-            push_among(alloc, pairs, multi, src, &dsts, places, room, later, out)
-        }
+    let mut dsts = Destinations::none(alloc);
+    let mut places = Places::new(alloc);
+    let mut room = Found::none(alloc);
+    let mut later = false;
+    for src in srcs {
+        dsts = dsts.renewed(pairs.reached(alloc, src)?)?;
+        let (after, found) = push_among(
+            alloc,
+            pairs,
+            multi,
+            src,
+            &dsts,
+            &mut places,
+            room,
+            later,
+            out,
+        )?;
+        later = after;
+        room = found;
     }
+    out.push(b'}')?;
+    Ok(())
 }
 
-/// Puts the group of a source among these destinations, if it has a pair, as `push_group` does.
+/// Puts the group of a source among these destinations, if it has a pair. Tells whether a group stands before the
+/// next, and gives what was found, whose memory is used again.
 fn push_among<R: RowStore>(
     alloc: Global,
     pairs: &Pairs<R>,
     multi: bool,
     src: &PidName,
-    dsts: &[PidName],
+    dsts: &Destinations,
     places: &mut Places,
     room: Found,
     later: bool,
@@ -209,7 +240,7 @@ fn push_among<R: RowStore>(
         (object_if_any (valued (pair_shown multi pairs.now src.now) dsts.now))
         later out.old.items put.0 out.new.items) }
 {
-    let found = pairs.from(alloc, src, dsts, places, room)?;
+    let found = pairs.from(alloc, src, dsts.names(), places, room)?;
     let after = push_found(multi, src, dsts, &found, later, out)?;
     Ok((after, found))
 }
@@ -219,7 +250,7 @@ fn push_among<R: RowStore>(
 fn push_found(
     multi: bool,
     src: &PidName,
-    dsts: &[PidName],
+    dsts: &Destinations,
     found: &Found,
     later: bool,
     out: &mut Vec<u8>,
@@ -240,7 +271,7 @@ fn push_found(
 /// Puts each of the destinations of which something was found, with the brace behind them.
 fn push_members(
     multi: bool,
-    dsts: &[PidName],
+    dsts: &Destinations,
     found: &Found,
     out: &mut Vec<u8>,
 ) -> Result<(), AllocError>
@@ -248,8 +279,8 @@ fn push_members(
         (members_in_order (shown_members multi dsts.now found.now))) }
 {
     let mut later = false;
-    for (at, dst) in dsts.iter().enumerate() {
-        later = found.push_pair(multi, dst.as_str(), at, later, out)?;
+    for at in 0..dsts.count() {
+        later = found.push_pair(multi, dsts.start(at), at, later, out)?;
     }
     out.push(b'}')?;
     Ok(())

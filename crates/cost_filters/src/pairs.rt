@@ -5,11 +5,12 @@ ghost use Rattle.alto_rows.specs.Good.{AreGood};
 ghost use Rattle.alto_rows.specs.Rows.{Rows};
 ghost use Rattle.cost_tables.specs.Tables.{AreCostsOf, IsSetOf};
 ghost use Rattle.cost_filters.specs.Columns.{columns_of, reached};
+ghost use Rattle.cost_filters.specs.Found.{flags_of};
 ghost use Rattle.cost_filters.specs.Holds.{one_holds};
 ghost use Rattle.cost_filters.specs.Pairs.{is_shown, one_is_empty, pair_costs, tested_from};
 
 use crate::columns::{Column, columns_of, reached_once};
-use crate::found::Found;
+use crate::found::{Found, Shown};
 use crate::table::{Table, tested_from, told_from};
 use crate::types::CostType;
 use alto_names::{NetName, PidName};
@@ -112,7 +113,7 @@ impl<'a, R: RowStore> Pairs<'a, R> {
     ) -> Result<Found, AllocError>
         ensures { IfOk result (λ found. found ≡ map (pair_costs self.now src.now) dsts.now) }
     {
-        let (costs, flags) = room.into_room();
+        let (costs, places_shown) = room.into_room();
         let told = told_from(
             alloc,
             self.tables,
@@ -133,7 +134,14 @@ impl<'a, R: RowStore> Pairs<'a, R> {
             dsts,
             places,
         )?;
-        let shown = all_shown(alloc, self.alternatives, &told, &tested, dsts.len(), flags)?;
+        let shown = all_shown(
+            alloc,
+            self.alternatives,
+            &told,
+            &tested,
+            dsts.len(),
+            places_shown,
+        )?;
         Ok(Found::new(told, shown))
     }
 }
@@ -159,8 +167,37 @@ fn tested_if_any(
     tested_from(alloc, tables, net, types, src, dsts, places)
 }
 
-/// Which of so many places of the costs make a pair, in the memory of flags that aren't needed any more.
+/// Which of so many places of the costs make a pair, in the memory of what isn't needed any more. Where no constraint
+/// tests a pair, no place is looked at.
 fn all_shown(
+    alloc: Global,
+    alternatives: &[Vec<Constraint>],
+    told: &Table,
+    tested: &Table,
+    count: usize,
+    room: Shown,
+) -> Result<Shown, AllocError>
+    ensures { IfOk result (λ shown. flags_of told.now shown
+        ≡ map (is_shown (map (λ constraints. constraints.items) alternatives.now) told.now tested.now)
+        (range_with_len 0 count)) }
+{
+    if one_is_empty(alternatives) {
+        return Ok(Shown::WithCost(count));
+    }
+    let flags = flags_in(alloc, room);
+    Ok(Shown::Told(all_tested(alloc, alternatives, told, tested, count, flags)?))
+}
+
+/// The memory of flags that aren't needed any more.
+fn flags_in(alloc: Global, room: Shown) -> Vec<bool> {
+    match room {
+        Shown::Told(flags) => flags,
+        Shown::WithCost(_) => Vec::new(alloc),
+    }
+}
+
+/// Whether each of so many places of the costs makes a pair, in the memory of flags that aren't needed any more.
+fn all_tested(
     alloc: Global,
     alternatives: &[Vec<Constraint>],
     told: &Table,

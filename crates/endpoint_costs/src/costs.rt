@@ -10,6 +10,7 @@ ghost use Rattle.endpoint_costs.specs.Costs.{endpoint_costs, endpoint_meta, pair
 ghost use Rattle.endpoint_costs.specs.Spots.{IsWritten};
 
 use crate::ask::EndAsk;
+use crate::destinations::Destinations;
 use crate::endpoint::{Endpoint, endpoints_at};
 use crate::groups::push_groups;
 use crate::spots::{pids_of, spots_of};
@@ -103,8 +104,9 @@ fn push_section<R: RowStore>(
     let found = found_between(alloc, &pairs, &from, &to)?;
     let srcs = spots_of(alloc, srcs, &from)?;
     let dsts = spots_of(alloc, dsts, &to)?;
+    let ends = Destinations::of(alloc, dsts)?;
     out.push(b'{')?;
-    push_groups(ask.multi, &srcs, &dsts, &found, out)
+    push_groups(ask.multi, &srcs, &ends, &found, out)
 }
 
 /// The pairs of PIDs, source by source.

@@ -4,8 +4,9 @@ ghost use Rattle.std.specs.List.{filter_map};
 ghost use Rattle.serde_json.specs.Written.{members_text};
 ghost use Rattle.json_tree.specs.Tree.{members_in_order};
 ghost use Rattle.cost_filters.specs.Text.{PutsIfAny};
-ghost use Rattle.endpoint_costs.specs.Spots.{costs_object, group_at, group_data, has_pair, member_at};
+ghost use Rattle.endpoint_costs.specs.Spots.{costs_object, group_at, group_data, has_pair};
 
+use crate::destinations::Destinations;
 use crate::spots::Spot;
 use cost_filters::{Found, push_comma, push_name};
 use std::alloc::AllocError;
@@ -14,7 +15,7 @@ use std::alloc::AllocError;
 pub(crate) fn push_groups(
     multi: bool,
     srcs: &[Spot],
-    dsts: &[Spot],
+    dsts: &Destinations,
     found: &[Found],
     out: &mut Vec<u8>,
 ) -> Result<(), AllocError>
@@ -33,7 +34,7 @@ pub(crate) fn push_groups(
 fn push_group(
     multi: bool,
     src: &Spot,
-    dsts: &[Spot],
+    dsts: &Destinations,
     found: &[Found],
     later: bool,
     out: &mut Vec<u8>,
@@ -52,7 +53,7 @@ fn push_group(
 fn push_costs(
     multi: bool,
     name: &str,
-    dsts: &[Spot],
+    dsts: &Destinations,
     costs: &Found,
     later: bool,
     out: &mut Vec<u8>,
@@ -60,13 +61,13 @@ fn push_costs(
     ensures { IfOk result (λ after. PutsIfAny name.now (costs_object multi dsts.now costs.now)
         later out.old.items after out.new.items) }
 {
-    if !has_pair(costs, dsts) {
+    if !has_pair(costs, dsts.spots()) {
         return Ok(later);
     }
     push_comma(later, out)?;
     push_name(name, out)?;
     out.push(b'{')?;
-    push_members(multi, dsts, costs, out)?;
+    dsts.push_members(multi, costs, out)?;
     Ok(true)
 }
 
@@ -80,22 +81,4 @@ fn has_pair(costs: &Found, dsts: &[Spot]) -> bool
         }
     }
     false
-}
-
-/// Puts each of the destinations with which there is a pair, with the brace behind them.
-fn push_members(
-    multi: bool,
-    dsts: &[Spot],
-    costs: &Found,
-    out: &mut Vec<u8>,
-) -> Result<(), AllocError>
-    ensures { OnOk result (out.new.items ≡ out.old.items ++ members_text false
-        (members_in_order (filter_map (member_at multi costs.now) dsts.now))) }
-{
-    let mut later = false;
-    for dst in dsts {
-        later = costs.push_pair(multi, dst.text.as_str(), dst.at, later, out)?;
-    }
-    out.push(b'}')?;
-    Ok(())
 }

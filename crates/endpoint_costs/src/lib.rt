@@ -13,6 +13,7 @@
 mod addrs;
 mod ask;
 mod costs;
+mod destinations;
 mod endpoint;
 mod groups;
 mod laws;

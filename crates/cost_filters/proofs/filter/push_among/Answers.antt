@@ -1,4 +1,6 @@
-use Rattle.std.proofs.Common.{◌≡◌, ◌∙◌, ap, subst}
+use Rattle.std.proofs.Common.{◌≡◌, ◌∙◌, ap, map, subst}
+use Rattle.std.specs.Prelude.{List}
+use Rattle.alto_maps.specs.Shape.{Name}
 use Rattle.cost_filters.specs.Columns.{object_if_any, valued}
 use Rattle.cost_filters.specs.Pairs.{pair_costs, pair_shown}
 use Rattle.cost_filters.specs.Text.{PutsIfAny, found_object}
@@ -13,6 +15,8 @@ returns g c =
     let multi = c.args.multi in
     let object : found_object multi dsts c.in_ok-found.found
     ≡ object_if_any (valued (pair_shown multi pairs src) dsts) =
-    ap (found_object multi dsts) c.in_ok-found.ensures ∙ object_found (pair_costs pairs src) multi dsts c.requires in
+    ap (found_object multi dsts)
+    (c.in_ok-found.ensures ∙ ap (λ (names : List Name). map (pair_costs pairs src) names) c.names.ensures)
+    ∙ object_found (pair_costs pairs src) multi dsts c.requires in
     subst (λ value. PutsIfAny src value c.args.later c.args.out.now.items c.in_ok-after.after c.push_found.new.out.items)
     object c.in_ok-after.ensures

@@ -1,6 +1,6 @@
 -- What was found makes the member of the source, where it is anything.
 use Rattle.std.proofs.Common.{◌≡◌, ◌∙◌, ◌∷◌, ◌++◌, [], ap, subst, sym, append_assoc}
-use Rattle.std.specs.Prelude.{Bool, true, false, Option, Some, None, cond, is_some}
+use Rattle.std.specs.Prelude.{true, false, Option, Some, None, cond, is_some}
 use Rattle.std.specs.List.{list_any}
 use Rattle.json.specs.Print.{quoted}
 use Rattle.serde_json.specs.Data.{Data, object}

@@ -55,14 +55,14 @@ returns g c =
     let second : c.in_ok-dsts.dsts.items ≡ map (spot_in (set_of (pids dsts))) (entries_of dsts) =
     c.in_ok-dsts.ensures ∙ (λ i. map (spot_in ((c.deref-9.ensures.value ∙ to) i)) (entries_of dsts)) in
     let whole : object (members_in_order
-    (filter_map (group_at c.ask.inside.multi c.deref-11.result.now c.deref-12.result.now) c.deref-10.result.now))
+    (filter_map (group_at c.ask.inside.multi c.in_ok-ends.ends c.deref-11.result.now) c.deref-10.result.now))
     ≡ pairs_object rows net ask srcs dsts =
     (λ i. object (members_in_order (filter_map
-    (group_at (multi i) ((c.deref-11.ensures.value ∙ second) i) ((c.deref-12.ensures.value ∙ found) i))
+    (group_at (multi i) ((c.in_ok-ends.ensures ∙ second) i) ((c.deref-11.ensures.value ∙ found) i))
     ((c.deref-10.ensures.value ∙ first) i))))
     ∙ groups_are rows net ask (prefixes_in rows net) srcs dsts c.requires.srcs c.requires.dsts in
     let members = members_in_order
-    (filter_map (group_at c.ask.inside.multi c.deref-11.result.now c.deref-12.result.now) c.deref-10.result.now) in
+    (filter_map (group_at c.ask.inside.multi c.in_ok-ends.ends c.deref-11.result.now) c.deref-10.result.now) in
     on_ok_weaker c.push_groups.result
     (λ put. put
     ∙ (ap (λ bytes. bytes ++ members_text false members) c.in_ok-push.ensures.items

@@ -1,6 +1,6 @@
 -- What was found makes the member of the source, where it is anything.
 use Rattle.std.proofs.Common.{◌≡◌, ◌∙◌, ◌∷◌, ◌++◌, [], ap, subst, sym, append_assoc}
-use Rattle.std.specs.Prelude.{Bool, true, false, Option, Some, None, cond}
+use Rattle.std.specs.Prelude.{true, false, Option, Some, None, cond}
 use Rattle.std.specs.List.{filter_map}
 use Rattle.serde_json.specs.Data.{Data, object}
 use Rattle.serde_json.specs.Written.{compact_text, members_text}
@@ -18,7 +18,8 @@ returns c =
     let costs = c.args.costs.now in
     let dsts = c.args.dsts.now in
     let members = members_in_order (filter_map (member_at c.args.multi costs) dsts) in
-    let any : has_pair costs dsts ≡ true = sym c.if-not-has_pair.ensures in
+    let any : has_pair costs dsts ≡ true =
+    ap (has_pair costs) (sym c.spots.ensures) ∙ sym c.if-not-has_pair.ensures in
     let value : Some (object members) ≡ costs_object c.args.multi dsts costs =
     ap (λ b. cond b (Some (object members)) None) (sym any) in
     let whole : new ≡ c.push_name.new.out.items ++ compact_text (object members) =
@@ -36,7 +37,8 @@ returns-then-not-has_pair c =
     let costs = c.args.costs.now in
     let dsts = c.args.dsts.now in
     let members = members_in_order (filter_map (member_at c.args.multi costs) dsts) in
-    let none : has_pair costs dsts ≡ false = sym c.if-not-has_pair.ensures in
+    let none : has_pair costs dsts ≡ false =
+    ap (has_pair costs) (sym c.spots.ensures) ∙ sym c.if-not-has_pair.ensures in
     let value : None ≡ costs_object c.args.multi dsts costs =
     ap (λ b. cond b (Some (object members)) None) (sym none) in
     subst (λ (d : Option Data). PutsIfAny name d c.args.later old c.args.later old) value

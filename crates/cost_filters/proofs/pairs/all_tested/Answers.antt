@@ -1,7 +1,7 @@
 use Rattle.std.proofs.Common.{map}
 use Rattle.cost_filters.specs.Pairs.{is_shown}
 use Rattle.cost_filters.proofs.PairsLemmas.{place_more}
-use Rattle.cost_filters.proofs.pairs.all_shown.Goals as goal
+use Rattle.cost_filters.proofs.pairs.all_tested.Goals as goal
 
 pub loop-at-preserved : goal.loop-at-preserved
 loop-at-preserved c =

@@ -1,7 +1,7 @@
 use Rattle.std.proofs.Common.{◌≡◌, ◌++◌, ◌-◌, map}
 use Rattle.std.specs.List.{range_with_len}
 use Rattle.cost_filters.specs.Pairs.{is_shown}
-use Rattle.cost_filters.proofs.pairs.all_shown.Given as goal
+use Rattle.cost_filters.proofs.pairs.all_tested.Given as goal
 
 -- what is known of the places so far, and what is left, is all
 abbrev pub invariant-loop-at : goal.invariant-loop-at
