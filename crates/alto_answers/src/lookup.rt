@@ -1,13 +1,12 @@
 //! Which PID of a network an address belongs to.
-ghost use Rattle.std.specs.Prelude.{◌≡◌, IfOk, OnOk, option_copied, option_map};
+ghost use Rattle.std.specs.Prelude.{◌≡◌, ◌++◌, IfOk, option_copied, option_map};
 ghost use Rattle.serde_json.specs.Written.{compact_text};
-ghost use Rattle.alto_maps.specs.Writing.{AddsValue};
 ghost use Rattle.alto_book.specs.Book.{Book, rows_of};
 ghost use Rattle.alto_versions.specs.Front.{StandsFor};
 ghost use Rattle.alto_replies.specs.Reply.{IsReply};
 ghost use Rattle.alto_answers.specs.Answers.{BringsEdits, HasBytes};
 ghost use Rattle.alto_answers.specs.Lookup as spec;
-ghost use Rattle.alto_answers.specs.Lookup.{LookupAnswer, ReadsAddr, pid_document, pid_value};
+ghost use Rattle.alto_answers.specs.Lookup.{LookupAnswer, ReadsAddr, pid_document};
 ghost use Rattle.alto_answers.specs.Target.{segment};
 
 use crate::outcome::Answer;
@@ -18,7 +17,6 @@ use alto_names::PidName;
 use alto_replies::{Body, Reply, not_found, ok_reply, wrong_method};
 use alto_rows::{RowStore, read_typed_addr};
 use alto_versions::Front;
-use json::Writer;
 use pid_prefix::RangeTable;
 use std::alloc::{AllocError, Global};
 
@@ -76,32 +74,23 @@ fn lookup_reply(
     Ok(ok_reply("application/json", Body::of_bytes(body)))
 }
 
-/// The text that tells a PID, or that there is none.
+/// The text that tells a PID, or that there is none. No byte of a PID is escaped in it.
 fn pid_text(alloc: Global, pid: Option<&PidName>) -> Result<Vec<u8>, AllocError>
     ensures { IfOk result (λ bytes. bytes.items ≡ compact_text (pid_document (option_copied pid.entry))) }
 {
-    let mut out = Writer::new(Vec::with_capacity(alloc, LONGEST)?);
-    write_document(pid, &mut out)?;
-    Ok(out.into_inner())
-}
-
-/// Writes the document of a PID.
-#[tactic(auto, unfolding(json_tree::specs::Document::with_member))]
-fn write_document(pid: Option<&PidName>, out: &mut Writer) -> Result<(), AllocError>
-    ensures { OnOk result (AddsValue (pid_document (option_copied pid.entry)) out.old out.new) }
-{
-    out.begin_object()?;
-    out.key("pid")?;
-    write_pid(pid, out)?;
-    out.end_object()
-}
-
-/// Writes a PID, or null where there is none.
-fn write_pid(pid: Option<&PidName>, out: &mut Writer) -> Result<(), AllocError>
-    ensures { OnOk result (AddsValue (pid_value (option_copied pid.entry)) out.old out.new) }
-{
     match pid {
-        Some(pid) => out.string(pid.as_str()),
-        None => out.null(),
+        Some(pid) => between(alloc, b"{\"pid\":\"", pid.as_bytes(), b"\"}"),
+        None => between(alloc, b"{\"pid\":", b"null", b"}"),
     }
+}
+
+/// The bytes of a text between two others.
+fn between(alloc: Global, first: &[u8], text: &[u8], last: &[u8]) -> Result<Vec<u8>, AllocError>
+    ensures { IfOk result (λ bytes. bytes.items ≡ first.now ++ (text.now ++ last.now)) }
+{
+    let mut bytes = Vec::with_capacity(alloc, LONGEST)?;
+    bytes.extend_from_slice(first)?;
+    bytes.extend_from_slice(text)?;
+    bytes.extend_from_slice(last)?;
+    Ok(bytes)
 }

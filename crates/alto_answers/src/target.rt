@@ -24,7 +24,11 @@ pub(crate) fn segment(
 ) -> Result<CowSlice<'_, u8>, AllocError>
     ensures { IfOk result (λ bytes. cow_slice_items bytes ≡ segment path.now place) }
 {
-    percent_decode(raw_segment(path, place)).into_cow(alloc)
+    let raw = raw_segment(path, place);
+    if raw.contains(&b'%') {
+        return percent_decode(raw).into_cow(alloc);
+    }
+    Ok(CowSlice::Borrowed(raw))
 }
 
 fn before_query(target: &[u8]) -> &[u8]

@@ -3,9 +3,10 @@ use Rattle.std.proofs.Common.{◌≡◌, ℕ, ◌+◌, ◌≤◌, List, [], ◌�
 use Rattle.std.proofs.lemmas.List.Sums.{sum_by-append}
 use Rattle.std.specs.List.{flat_map}
 use Rattle.httparse.specs.Grammar.{LineEnd, crlf, lf, print_end, Field, print_field, print_blank, print_version}
-use Rattle.httparse.specs.Grammar.{print_section, RequestHead, ReadsRequest}
+use Rattle.httparse.specs.Grammar.{print_section, RequestHead, ReadsRequest, HasNoRequest}
 use Rattle.httparse.proofs.GrammarLemmas.{print_request-append}
 use Rattle.alto_http.specs.Head.{line_feeds}
+use Rattle.alto_http.specs.Request.{HasNoRequestWithin}
 
 line_feeds-append : (a b : List ℕ) → line_feeds (a ++ b) ≡ line_feeds a + line_feeds b
 line_feeds-append a b = sum_by-append _ a b
@@ -59,3 +60,9 @@ few_fields bytes h rest reads few =
       line_feeds-end h.last,
       line_each h.fields,
     )
+
+-- bytes of few lines begin with no head where they begin with none of few fields
+pub no_request : (bytes : List ℕ) (room : ℕ) → 64 ≤ room → line_feeds bytes ≤ 66 → HasNoRequestWithin room bytes
+    → HasNoRequest bytes
+no_request bytes room enough few none h rest reads =
+    none h rest reads (omega (arith, enough, few_fields bytes h rest reads few))

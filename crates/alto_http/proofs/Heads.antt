@@ -6,7 +6,8 @@ use Rattle.std.proofs.lemmas.Bool.{and_parts, cases_lt, cond-true, cond-false, f
 use Rattle.std.proofs.lemmas.List.Folds.{prefix_len-append}
 use Rattle.std.proofs.lemmas.List.Sums.{prefix_len-le-length}
 use Rattle.std.proofs.lemmas.Grind.{take_at_read}
-use Rattle.std.proofs.lemmas.List.{drop-append-le, take-append-le, take-append-drop}
+use Rattle.std.proofs.lemmas.List.{drop-append-le, take-append-le, take-append-drop, get_or-drop, length-drop}
+use Rattle.memchr.specs.Find.{Nowhere, NoneBefore, Passes, is_byte}
 use Rattle.std.specs.Cmp.Lexicographic.{pointwise}
 use Rattle.std.specs.List.{ends_with}
 use Rattle.std.specs.Prelude.{nat_eq}
@@ -69,6 +70,43 @@ pub no_end_at : (bytes : List ℕ) (at : ℕ) → at < length bytes → (get_or 
 no_end_at bytes at within other =
     ap ends_in_empty_line (take_at_read bytes at 0 within).1
     ∙ no_end_here (take at bytes) (get_or bytes at 0) (apart line_feed (get_or bytes at 0) (λ same. other (sym same)))
+
+-- where no line feed follows for some bytes, no head ends there
+no_end_until : (bytes rest : List ℕ) (from k : ℕ) → rest ≡ drop from bytes → from + k ≤ length bytes
+    → HasNoEnd from bytes → Nowhere (Passes (is_byte line_feed) rest) 0 k → HasNoEnd (from + k) bytes
+no_end_until bytes rest from k is within before none m le =
+    ⊎_elim
+    (λ lt. let j = m - 1 - from in
+    let e : m ≡ from + j + 1 = omega (arith, lt) in
+    let there : from + j < length bytes = omega (arith, lt, le, within) in
+    let early : j < k = omega (arith, lt, le) in
+    let read : get_or rest j 0 ≡ get_or bytes (from + j) 0 = ap (λ xs. get_or xs j 0) is ∙ get_or-drop from bytes j 0 in
+    ap (λ n. ends_in_empty_line (take n bytes)) e
+    ∙ no_end_at bytes (from + j) there (λ same. none j (omega arith) early (eq-eqb _ _ (read ∙ same))))
+    (λ ge. before m ge)
+    (cases_lt from m)
+
+-- up to the next line feed no head ends
+pub no_end_to_feed : (bytes rest : List ℕ) (from k : ℕ) → rest ≡ drop from bytes → from ≤ length bytes
+    → HasNoEnd from bytes → NoneBefore (Passes (is_byte line_feed) rest) 0 (length rest) k
+    → (from ≤ from + k) × (from + k < length bytes) × HasNoEnd (from + k) bytes
+no_end_to_feed bytes rest from k is within before first =
+    let long : length rest ≡ length bytes - from = ap length is ∙ length-drop from bytes in (
+      omega arith,
+      omega (arith, long, first.high, within),
+      no_end_until bytes rest from k is (omega (arith, long, first.high, within)) before first.before,
+    )
+
+-- where no line feed follows, no head ends
+pub no_end_without_feed : (bytes rest : List ℕ) (from : ℕ) → rest ≡ drop from bytes → from ≤ length bytes
+    → HasNoEnd from bytes → Nowhere (Passes (is_byte line_feed) rest) 0 (length rest)
+    → HasNoEnd (length bytes) bytes
+no_end_without_feed bytes rest from is within before none =
+    let long : length rest ≡ length bytes - from = ap length is ∙ length-drop from bytes in
+    let all : from + length rest ≡ length bytes = omega (arith, long, within) in
+    let until : HasNoEnd (from + length rest) bytes =
+    no_end_until bytes rest from (length rest) is (omega (arith, all)) before none in
+    λ m le. until m (omega (arith, all, le))
 
 -- line breaks behind a prefix that is all line breaks
 pub breaks_behind : (bytes : List ℕ) (n : ℕ) → n ≤ length bytes → breaks_before (take n bytes) ≡ n

@@ -1,10 +1,12 @@
 -- Ranges of a buffer.
 use Rattle.std.proofs.Common.{◌≡◌, ℕ, ◌+◌, ◌-◌, ◌≤◌, min, List, ◌++◌, length, take, drop, slice_range, ap, sym, ◌∙◌}
-use Rattle.std.proofs.Common.{append_assoc, append-nil, arith, ⊎_elim, length-take}
+use Rattle.std.proofs.Common.{append-nil, arith, ⊎_elim, length-take}
 use Rattle.std.proofs.lemmas.Bool.{cases_lt}
 use Rattle.std.proofs.Math.Seq.{take-add}
-use Rattle.std.proofs.lemmas.List.{drop-take, drop-drop, take_at, drop-append-le, take_all, drop_all, take-append-drop}
+use Rattle.std.proofs.lemmas.List.{drop-take, drop-drop, drop-append-le, take_all, drop_all, take-append-drop}
 use Rattle.std.proofs.lemmas.List.{take-take, length-drop}
+use Rattle.std.proofs.lemmas.List.Edits.{take-paste}
+use Rattle.std.specs.List.{copy_within}
 
 -- the same range, as what is dropped from the range up to its end
 range_split : (xs : List ℕ) (start end : ℕ) → start ≤ end → drop start (take end xs) ≡ slice_range xs start end
@@ -21,16 +23,14 @@ range_from xs start end n h =
     ∙ drop-take n (end - (start + n)) (drop start xs)
     ∙ ap (take (end - (start + n))) (drop-drop n start xs))
 
--- a range that was rotated to the front
-pub rotated_front : (xs : List ℕ) (start end : ℕ) → start ≤ end → end ≤ length xs
-    → take (end - start) ((drop start (take end xs) ++ take start (take end xs)) ++ drop end xs)
-    ≡ slice_range xs start end
-rotated_front xs start end h w =
-    let long : length (drop start (take end xs)) ≡ end - start =
-    simp (length-drop, length-take) (omega arith) in
-    ap (take (end - start)) (append_assoc (drop start (take end xs)) (take start (take end xs)) (drop end xs))
-    ∙ take_at (drop start (take end xs)) _ (end - start) long
-    ∙ range_split xs start end h
+-- a range that was moved to the front
+pub moved_front : (xs : List ℕ) (start end : ℕ) → start ≤ end → end ≤ length xs
+    → take (end - start) (copy_within xs start end 0) ≡ slice_range xs start end
+moved_front xs start end h w =
+    let n = end - start in
+    let same : n ≡ 0 + n = omega arith in
+    ap (λ k. take k (copy_within xs start end 0)) same
+    ∙ take-paste xs 0 (drop start xs) n (omega arith) (omega (arith, h, w, length-drop start xs))
 
 -- a longer range from the first byte is a prefix and the rest
 pub range_joined : (xs : List ℕ) (end k : ℕ) → slice_range xs 0 (end + k) ≡ take end xs ++ slice_range xs end (end + k)

@@ -1,6 +1,6 @@
 -- A request, and what the bytes of its head say (RFC 9112, section 3; RFC 9110, section 9.1).
 use Rattle.std.specs.Prelude.{◌≡◌, ℕ, ◌<◌, ◌≤◌, ◌⊎◌, Bool, true, false, if◌then◌else◌, List, [], map, Option, is_some}
-use Rattle.std.specs.Prelude.{Result, Ok, Err, bytes_eq, codes}
+use Rattle.std.specs.Prelude.{length, Result, Ok, Err, bytes_eq, codes}
 use Rattle.httparse.specs.Grammar.{RequestHead, ReadsRequest, HasNoRequest}
 use Rattle.httparse.specs.Spans.{name_and_value}
 use Rattle.alto_http.specs.declared.fault.HeadFault.{HeadFault}
@@ -63,6 +63,11 @@ length_after head = body_length (verb_of head.method) (fields_of head)
 -- the most lines that a head has: a request line, 64 fields and an empty line
 abbrev pub line_limit : ℕ
 line_limit = 66
+
+-- the bytes begin with no head of so many fields at most
+abbrev pub HasNoRequestWithin : ℕ → List ℕ → Type 0
+HasNoRequestWithin room bytes =
+    (head : RequestHead) (rest : List ℕ) → ReadsRequest bytes head rest → length head.fields ≤ room → ⊥
 
 -- the bytes begin with a head, which stands for this request and says this length of its body
 abbrev pub Passes : List ℕ → RequestData → ℕ → Type 0

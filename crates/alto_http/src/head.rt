@@ -1,11 +1,10 @@
 //! The checks of a head, and the request that it stands for.
-ghost use Rattle.std.specs.Prelude.{◌≡◌, ◌≢◌, ◌≤◌, length, map, All, IfSome, IfNone, IfOk, IfErr};
+ghost use Rattle.std.specs.Prelude.{◌≡◌, ◌≢◌, ◌≤◌, nat_lt, length, map, All, IfSome, IfNone, IfOk, IfErr};
 ghost use Rattle.std.specs.Option.{option_copied, option_map};
-ghost use Rattle.httparse.specs.Grammar.{HasNoRequest};
 ghost use Rattle.httparse.specs.Spans.{IsHeaderWithin, IsWithin, IsRequestWithin, IsRequestOf, header_bytes};
 ghost use Rattle.httparse.specs.Spans.{span_bytes};
 ghost use Rattle.alto_http.specs.Head.{line_feeds};
-ghost use Rattle.alto_http.specs.Request.{verb_of, request_from, body_length, Passes, FailsBy};
+ghost use Rattle.alto_http.specs.Request.{verb_of, request_from, body_length, HasNoRequestWithin, Passes, FailsBy};
 
 use crate::fault::HeadFault;
 use crate::fields::{closes, first_value, length_of_body};
@@ -21,35 +20,72 @@ const LINES: usize = 66;
 /// The most fields that a head has: the other two lines are the request line and the empty one.
 const FIELDS: usize = 64;
 
-/// The request that the bytes of a head stand for, without its body, and the length of that body.
+/// So many fields most heads have at most. A short array for them is cleared for each head.
+const FEW_FIELDS: usize = 8;
+
+/// The request that the bytes of a head stand for, without its body, and the length of that body. A head that isn't
+/// read with few fields is read once more.
 pub(crate) fn read_head(alloc: Global, head: &[u8]) -> Result<(Request, usize), HeadFault>
     ensures ok { IfOk result (λ r. Passes head.now r.0 r.1) }
     ensures err { IfErr result (λ e. e ≢ HeadFault.Memory → FailsBy head.now e) }
 {
-    if line_feeds(head) > LINES {
+    if has_too_many_lines(head) {
         return Err(HeadFault::TooLarge);
     }
+    let mut spans = [EMPTY_HEADER_SPAN; FEW_FIELDS];
+    match parse_head(head, &mut spans) {
+        Some(line) => sized_request(alloc, head, &line, &spans),
+        None => read_long_head(alloc, head),
+    }
+}
+
+/// Only a head of more bytes can have more lines.
+fn has_too_many_lines(head: &[u8]) -> bool
+    ensures { result ≡ nat_lt LINES (line_feeds head.now) }
+{
+    head.len() > LINES && line_feeds(head) > LINES
+}
+
+fn read_long_head(alloc: Global, head: &[u8]) -> Result<(Request, usize), HeadFault>
+    requires { line_feeds head.now ≤ LINES }
+    ensures ok { IfOk result (λ r. Passes head.now r.0 r.1) }
+    ensures err { IfErr result (λ e. e ≢ HeadFault.Memory → FailsBy head.now e) }
+{
     let mut spans = [EMPTY_HEADER_SPAN; FIELDS];
-    let Some(line) = parse_head(head, &mut spans) else {
-        return Err(HeadFault::BadHead);
-    };
-    let fields = &spans[..line.headers];
-    let size = body_length(head, fields, verb_of(line.method.of(head)))?;
-    let request = request_from(alloc, head, &line, fields)?;
-    Ok((request, size))
+    match parse_head(head, &mut spans) {
+        Some(line) => sized_request(alloc, head, &line, &spans),
+        None => Err(HeadFault::BadHead),
+    }
 }
 
 fn parse_head(head: &[u8], spans: &mut [HeaderSpan]) -> Option<RequestSpans>
-    requires lines { line_feeds head.now ≤ LINES }
-    requires room { length spans.old ≡ FIELDS }
     ensures within { IfSome result (IsRequestWithin head.now spans.new) }
     ensures found { IfSome result (IsRequestOf head.now spans.new) }
-    ensures none { IfNone result (HasNoRequest head.now) }
+    ensures none { IfNone result (HasNoRequestWithin (length spans.old) head.now) }
 {
     match parse_request(head, spans) {
         Ok(Status::Complete(line)) => Some(line),
         _ => None,
     }
+}
+
+/// The request of a head that was read as this line and the fields of these spans, and the length of its body.
+fn sized_request(
+    alloc: Global,
+    head: &[u8],
+    line: &RequestSpans,
+    spans: &[HeaderSpan],
+) -> Result<(Request, usize), HeadFault>
+    requires lines { line_feeds head.now ≤ LINES }
+    requires within { IsRequestWithin head.now spans.now line.now }
+    requires found { IsRequestOf head.now spans.now line.now }
+    ensures ok { IfOk result (λ r. Passes head.now r.0 r.1) }
+    ensures err { IfErr result (λ e. e ≢ HeadFault.Memory → FailsBy head.now e) }
+{
+    let fields = &spans[..line.headers];
+    let size = body_length(head, fields, verb_of(line.method.of(head)))?;
+    let request = request_from(alloc, head, line, fields)?;
+    Ok((request, size))
 }
 
 fn verb_of(method: &[u8]) -> Verb

@@ -96,7 +96,7 @@ fn move_to_front(buffer: &mut [u8], start: usize, end: usize)
     requires within { end ≤ length buffer.old }
     ensures { take (end - start) buffer.new ≡ slice_range buffer.old start end }
 {
-    buffer[..end].rotate_left(start);
+    buffer.copy_within(start..end, 0);
 }
 
 /// Copies the first `count` bytes.

@@ -138,7 +138,7 @@ fn fill_body<L: Link>(intake: &mut Intake, link: &mut L, into: &mut [u8]) -> Res
     read_full(link, into, ahead)
 }
 
-/// Takes a body of `size` bytes from the front, into room that is reserved once.
+/// Takes a body of `size` bytes from the front, into room that is reserved once. An empty one takes no memory.
 pub(crate) fn take_body<L: Link>(
     alloc: Global,
     intake: &mut Intake,
@@ -159,6 +159,9 @@ pub(crate) fn take_body<L: Link>(
     ensures out { L.out link.new ≡ L.out link.old }
     ensures failed_writes { L.failed_writes link.new ≡ L.failed_writes link.old }
 {
+    if size == 0 {
+        return Ok(Vec::new(alloc));
+    }
     let mut body = vec![in alloc; 0; size]?;
     fill_body(intake, link, &mut body)?;
     Ok(body)

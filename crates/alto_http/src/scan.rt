@@ -2,6 +2,8 @@
 ghost use Rattle.std.specs.Prelude.{◌≡◌, ◌<◌, ◌≤◌, ◌+◌, length, take, drop, IfSome, IfNone};
 ghost use Rattle.alto_http.specs.Head.{is_break, breaks_before, ends_in_empty_line, HasNoEnd, IsHeadEnd, line_feeds};
 
+use memchr::memchr;
+
 /// How many CR and LF bytes come first, where the first `passed` are such; only what stands behind
 /// those is looked at.
 pub(crate) fn breaks_before(bytes: &[u8], passed: usize) -> usize
@@ -39,26 +41,32 @@ fn ends_in_empty_line(bytes: &[u8]) -> bool
     bytes.ends_with(b"\n\n") || bytes.ends_with(b"\n\r\n")
 }
 
-/// Whether the bytes up to the one at a place, which they have, end in an empty line. Most bytes are no LF, and then
-/// no other is looked at.
-fn ends_empty_line(bytes: &[u8], at: usize) -> bool
-    requires { at < length bytes.now }
-    ensures { result ≡ ends_in_empty_line (take (at + 1) bytes.now) }
+/// Where the first LF stands behind `from` bytes. No prefix of up to `from` bytes is a head.
+fn next_line_feed(bytes: &[u8], from: usize) -> Option<usize>
+    requires within { from ≤ length bytes.now }
+    requires passed { HasNoEnd from bytes.now }
+    ensures found { IfSome result (λ at. (from ≤ at) × (at < length bytes.now) × HasNoEnd at bytes.now) }
+    ensures none { IfNone result (HasNoEnd (length bytes.now) bytes.now) }
 {
-    bytes[at] == b'\n' && ends_in_empty_line(&bytes[..at + 1])
+    match memchr(b'\n', &bytes[from..]) {
+        Some(passed) => Some(from + passed),
+        None => None,
+    }
 }
 
 /// How many bytes the head has that begins here, where its end is there. No prefix of up to `from`
-/// bytes is a head; only what stands behind them is looked at.
+/// bytes is a head; only what stands behind them is looked at, many bytes at a time.
 pub(crate) fn head_end(bytes: &[u8], from: usize) -> Option<usize>
     requires within { from ≤ length bytes.now }
     requires passed { HasNoEnd from bytes.now }
     ensures found { IfSome result (IsHeadEnd bytes.now) }
     ensures none { IfNone result (HasNoEnd (length bytes.now) bytes.now) }
 {
-    for at in from..bytes.len() {
-        if ends_empty_line(bytes, at) {
-            return Some(at + 1);
+    let mut passed = from;
+    'lines: while let Some(at) = next_line_feed(bytes, passed) {
+        passed = at + 1;
+        if ends_in_empty_line(&bytes[..passed]) {
+            return Some(passed);
         }
     }
     None

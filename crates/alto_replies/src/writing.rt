@@ -50,13 +50,40 @@ fn head(alloc: Global, reply: &Reply, close: bool) -> Result<String, AllocError>
 {
     let length = reply.body.len()?;
     let mut head = String::with_capacity(alloc, length.min(LONGEST_COPIED) + HEAD_BYTES)?;
-    write_status(&mut head, reply.status)?;
-    write_type(&mut head, reply.content_type)?;
-    write_length(&mut head, length)?;
+    write_first_lines(&mut head, reply.status, reply.content_type, length)?;
     write_allow(&mut head, reply.allow)?;
     write_close(&mut head, close)?;
     head.push_str("\r\n")?;
     Ok(head)
+}
+
+/// Writes the status line, and the fields that each reply has. Most replies have the status 200.
+fn write_first_lines(
+    head: &mut String,
+    status: u16,
+    media_type: &str,
+    size: usize,
+) -> Result<(), AllocError>
+    requires { is_some (phrase_of status) ≡ true }
+    ensures { OnOk result (string_bytes head.new
+        ≡ string_bytes head.old ++ (status_line status ++ type_field media_type.now ++ length_field size)) }
+{
+    if status == 200 {
+        return write_ok(head, media_type, size);
+    }
+    write_status(head, status)?;
+    write_type(head, media_type)?;
+    write_length(head, size)
+}
+
+/// The same of the status 200, in few calls.
+fn write_ok(head: &mut String, media_type: &str, size: usize) -> Result<(), AllocError>
+    ensures { OnOk result (string_bytes head.new
+        ≡ string_bytes head.old ++ (status_line 200 ++ type_field media_type.now ++ length_field size)) }
+{
+    let mut digits = Buffer::new();
+    write_texts(head, "HTTP/1.1 200 OK\r\nContent-Type: ", media_type)?;
+    write_line(head, "\r\nContent-Length: ", digits.format(size))
 }
 
 #[tactic(auto, unfolding(crate::specs::Reply::status_line))]
@@ -94,6 +121,14 @@ fn write_allow(head: &mut String, allow: Option<Verb>) -> Result<(), AllocError>
         Some(method) => write_line(head, "Allow: ", method_text(method)),
         None => Ok(()),
     }
+}
+
+/// Writes a text, and one behind it.
+fn write_texts(head: &mut String, first: &str, second: &str) -> Result<(), AllocError>
+    ensures { OnOk result (string_bytes head.new ≡ string_bytes head.old ++ (first.now ++ second.now)) }
+{
+    head.push_str(first)?;
+    head.push_str(second)
 }
 
 /// Writes a line, or the rest of one: a text, and one behind it.
