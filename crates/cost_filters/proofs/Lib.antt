@@ -10,3 +10,4 @@ pub mod TextLemmas
 pub mod PlainLemmas
 pub mod StartsLemmas
 pub mod ShownLemmas
+pub mod ToldLemmas

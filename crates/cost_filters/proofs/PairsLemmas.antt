@@ -3,14 +3,12 @@ use Rattle.std.proofs.Common.{◌≡◌, ◌∙◌, ◌+◌, ◌<◌, ℕ, zero,
 use Rattle.std.proofs.Common.{get_or}
 use Rattle.std.proofs.lemmas.Bool.{or_right}
 use Rattle.std.proofs.lemmas.Bool.Decides.{nat_tests}
-use Rattle.std.proofs.lemmas.Simd.{map-map}
 use Rattle.std.specs.Prelude.{Bool, true, false, nat_eq, List, [], ◌∷◌, Option, Some, None, is_some, map, option_map}
 use Rattle.std.specs.Prelude.{slice_get, unwrap_or}
 use Rattle.std.specs.List.{list_any, range_with_len}
 use Rattle.alto_rows.specs.Rows.{Rows}
 use Rattle.alto_maps.specs.Shape.{Name}
 use Rattle.alto_rows.specs.Costs.{cost_of}
-use Rattle.cost_tables.specs.Tables.{AreCostsOf, Tables, cost_in}
 use Rattle.cost_rule.specs.declared.constraint.Constraint.{Constraint}
 use Rattle.cost_filters.specs.declared.columns.Column.{Column}
 use Rattle.cost_filters.specs.declared.columns.Scale.TheVariants as scale
@@ -36,20 +34,6 @@ pub all_numerical : (costs : List (Option ℕ)) → costs ≡ map (option_map (s
 all_numerical [] = refl
 all_numerical (None ∷ costs) = ap (λ (more : List (Option ℕ)). None ∷ more) (all_numerical costs)
 all_numerical (Some cost ∷ costs) = ap (λ (more : List (Option ℕ)). Some cost ∷ more) (all_numerical costs)
-
--- tables tell the costs to destinations as the rows do
-pub costs_told : (rows : Rows) (tables : Tables) (net metric src : Name) (dsts : List Name) → AreCostsOf rows tables
-    → map (cost_in tables net metric src) dsts ≡ map (λ dst. cost_of rows net metric src dst) dsts
-costs_told rows tables net metric src dsts costs = λ i. map (λ dst. costs net metric src dst i) dsts
-
--- the costs of a column, as they are told
-pub column_told : (rows : Rows) (tables : Tables) (net src : Name) (column : Column) (dsts : List Name)
-    → AreCostsOf rows tables
-    → map (option_map (scaled column.scale)) (map (cost_in tables net column.metric src) dsts)
-    ≡ map (λ dst. column_cost rows net src dst column) dsts
-column_told rows tables net src column dsts costs =
-    ap (map (option_map (scaled column.scale))) (costs_told rows tables net column.metric src dsts costs)
-    ∙ map-map (option_map (scaled column.scale)) (λ dst. cost_of rows net column.metric src dst) dsts
 
 -- ---- all columns at a place
 
@@ -152,12 +136,6 @@ all_pairs pairs src dsts columns told tested made costs tests =
     (λ none. ap (costs_at at) (tests none) ∙ tested_at pairs.rows pairs.net src pairs.tested dsts at d within))
 
 -- ---- steps of loops
-
--- a column is added before those that are left
-pub column_more : (before left all : Table) (column is : List (Option ℕ)) → column ≡ is → before ++ is ∷ left ≡ all
-    → (before ++ column ∷ []) ++ left ≡ all
-column_more before left all column is same whole =
-    append_assoc before (column ∷ []) left ∙ (ap (λ (one : List (Option ℕ)). before ++ one ∷ left) same ∙ whole)
 
 -- what is made at a place is added before the places that are left
 pub place_more : {A : Type 0} (g : ℕ → A) (before all : List A) (at count : ℕ) (one : A) → at < count → one ≡ g at

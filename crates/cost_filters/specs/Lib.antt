@@ -7,6 +7,7 @@ pub mod Filter
 pub mod Columns
 pub mod Pairs
 pub mod Found
+pub mod PairsTo
 pub mod Names
 pub mod Starts
 pub mod Text

@@ -1,5 +1,5 @@
 //! The filtered cost map as JSON text, written without a tree.
-ghost use Rattle.std.specs.Prelude.{◌≡◌, ◌++◌, [], ◌∷◌, Some, None, false, codes, IfOk, OnOk, option_map};
+ghost use Rattle.std.specs.Prelude.{◌≡◌, ◌++◌, [], ◌∷◌, Some, None, false, codes, IfOk, OnOk, map, option_map};
 ghost use Rattle.std.specs.Cmp.Lexicographic.{slice_cmp};
 ghost use Rattle.std.specs.List.Sorted.{IsStrictlySortedBy};
 ghost use Rattle.std.specs.Ordering.{nat_cmp};
@@ -11,11 +11,11 @@ ghost use Rattle.cost_tables.specs.Tables.{AreCostsOf};
 ghost use Rattle.alto_maps.specs.Shape.{section_object};
 ghost use Rattle.alto_maps.specs.Writing.{AddsMember, AddsMembers};
 ghost use Rattle.net_docs.specs.NetworkMap.{dependent_tags};
-ghost use Rattle.cost_filters.specs.Columns.{object_if_any, valued};
+ghost use Rattle.cost_filters.specs.Columns.{valued};
 ghost use Rattle.cost_filters.specs.Filter.{filtered_costs, filtered_face, filtered_meta};
 ghost use Rattle.cost_filters.specs.Filter.{types_data, types_name};
 ghost use Rattle.cost_filters.specs.Names.{AreSetIfAny};
-ghost use Rattle.cost_filters.specs.Pairs.{pair_shown};
+ghost use Rattle.cost_filters.specs.Pairs.{pair_costs};
 ghost use Rattle.cost_filters.specs.Text.{PutsIfAny, group_made, found_object, shown_members};
 
 use crate::ask::CostAsk;
@@ -28,7 +28,7 @@ use crate::types::CostType;
 use crate::writing::write_types;
 use alto_names::{NetName, PidName};
 use alto_rows::RowStore;
-use cost_tables::{CostTables, Places};
+use cost_tables::CostTables;
 use json::Writer;
 use net_docs::write_dependent_tags;
 use std::alloc::{AllocError, Global};
@@ -40,9 +40,9 @@ const FIRST_ROOM: usize = 8192;
 /// with no space, written without a tree.
 ///
 /// For each ordinal type one walk over its metric's rows and one sort of their costs. For each source that is asked for
-/// and each type that is asked for or tested one binary search for the source, and for each destination one comparison
-/// of two names where the costs from the source before lay alike, else one binary search. Where all destinations are
-/// asked for, also one walk over the source's rows.
+/// and each type that is asked for or tested one binary search for the source, and one look for each destination where
+/// the source before has the same destinations. Where all destinations are asked for, also one walk over the source's
+/// rows.
 pub fn filter_cost_text<R: RowStore>(
     alloc: Global,
     rows: &R,
@@ -164,22 +164,13 @@ fn push_given<R: RowStore>(
         (valued (group_made multi (Some names.items) pairs.now) srcs.now))) }
 {
     let dsts = Destinations::none(alloc).renewed(names)?;
-    let mut places = Places::new(alloc);
+    let mut to = pairs.to(alloc, dsts.names())?;
     let mut room = Found::none(alloc);
     let mut later = false;
     for src in srcs {
-        let (after, found) = push_among(
-            alloc,
-            pairs,
-            multi,
-            src,
-            &dsts,
-            &mut places,
-            room,
-            later,
-            out,
-        )?;
-        later = after;
+        let (again, found) = to.from(alloc, src, room)?;
+        later = push_found(multi, src, &dsts, &found, later, out)?;
+        to = again;
         room = found;
     }
     out.push(b'}')?;
@@ -199,50 +190,32 @@ fn push_reached<R: RowStore>(
         (valued (group_made multi None pairs.now) srcs.now))) }
 {
     let mut dsts = Destinations::none(alloc);
-    let mut places = Places::new(alloc);
     let mut room = Found::none(alloc);
     let mut later = false;
     for src in srcs {
         dsts = dsts.renewed(pairs.reached(alloc, src)?)?;
-        let (after, found) = push_among(
-            alloc,
-            pairs,
-            multi,
-            src,
-            &dsts,
-            &mut places,
-            room,
-            later,
-            out,
-        )?;
-        later = after;
+        let found = found_from(alloc, pairs, src, &dsts, room)?;
+        later = push_found(multi, src, &dsts, &found, later, out)?;
         room = found;
     }
     out.push(b'}')?;
     Ok(())
 }
 
-/// Puts the group of a source among these destinations, if it has a pair. Tells whether a group stands before the
-/// next, and gives what was found, whose memory is used again.
-fn push_among<R: RowStore>(
+/// The pairs of one source with destinations, in the memory of pairs that aren't needed any more.
+fn found_from<R: RowStore>(
     alloc: Global,
     pairs: &Pairs<R>,
-    multi: bool,
     src: &PidName,
     dsts: &Destinations,
-    places: &mut Places,
     room: Found,
-    later: bool,
-    out: &mut Vec<u8>,
-) -> Result<(bool, Found), AllocError>
-    requires { IsStrictlySortedBy (slice_cmp nat_cmp) dsts.now }
-    ensures { IfOk result (λ put. PutsIfAny src.now
-        (object_if_any (valued (pair_shown multi pairs.now src.now) dsts.now))
-        later out.old.items put.0 out.new.items) }
+) -> Result<Found, AllocError>
+    ensures { IfOk result (λ found. found ≡ map (pair_costs pairs.now src.now) dsts.now) }
 {
-    let found = pairs.from(alloc, src, dsts.names(), places, room)?;
-    let after = push_found(multi, src, dsts, &found, later, out)?;
-    Ok((after, found))
+    let to = pairs.to(alloc, dsts.names())?;
+    let (again, found) = to.from(alloc, src, room)?;
+    drop(again);
+    Ok(found)
 }
 
 /// Puts what was found of destinations as a member with the name of their source, if it is anything. Tells whether a

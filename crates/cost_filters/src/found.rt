@@ -86,8 +86,9 @@ impl Found {
         later: bool,
         out: &mut Vec<u8>,
     ) -> Result<bool, AllocError>
-        ensures { IfOk result (λ after. (name : Name) → start.now ≡ member_start name → PutsIfAny name
-            (option_map (costs_data multi) (if_there (slice_get self.now at))) later out.old.items after out.new.items) }
+        ensures { IfOk result (λ after. (name : Name) → start.now ≡ member_start name
+            → PutsIfAny name (option_map (costs_data multi) (if_there (slice_get self.now at)))
+            later out.old.items after out.new.items) }
     {
         if !is_shown(&self.costs, &self.shown, at) {
             return Ok(later);

@@ -10,6 +10,7 @@
 #![tactic(auto)]
 
 mod ask;
+mod column_to;
 mod columns;
 mod constraints;
 mod destinations;
@@ -18,6 +19,7 @@ mod filter;
 mod found;
 mod names;
 mod pairs;
+mod pairs_to;
 mod picks;
 mod starts;
 mod table;
@@ -32,6 +34,7 @@ pub use filter::filter_cost_text;
 pub use found::Found;
 pub use names::distinct;
 pub use pairs::Pairs;
+pub use pairs_to::PairsTo;
 pub use starts::MemberStarts;
 pub use text::{push_comma, push_name};
 pub use types::{AskedTypes, CostType, read_types};

@@ -2,21 +2,23 @@
 ghost use Rattle.std.specs.Prelude.{◌≡◌, false, IfOk, map};
 ghost use Rattle.std.specs.List.{range_with_len};
 ghost use Rattle.alto_rows.specs.Good.{AreGood};
-ghost use Rattle.alto_rows.specs.Rows.{Rows};
 ghost use Rattle.cost_tables.specs.Tables.{AreCostsOf, IsSetOf};
 ghost use Rattle.cost_filters.specs.Columns.{columns_of, reached};
 ghost use Rattle.cost_filters.specs.Found.{flags_of};
 ghost use Rattle.cost_filters.specs.Holds.{one_holds};
-ghost use Rattle.cost_filters.specs.Pairs.{is_shown, one_is_empty, pair_costs, tested_from};
+ghost use Rattle.cost_filters.specs.Pairs.{is_shown, one_is_empty};
+ghost use Rattle.cost_filters.specs.PairsTo.{TellPairs, tested_to};
 
+use crate::column_to::{ColumnTo, tested_to, told_to};
 use crate::columns::{Column, columns_of, reached_once};
-use crate::found::{Found, Shown};
-use crate::table::{Table, tested_from, told_from};
+use crate::found::Shown;
+use crate::pairs_to::PairsTo;
+use crate::table::Table;
 use crate::types::CostType;
 use alto_names::{NetName, PidName};
 use alto_rows::RowStore;
 use cost_rule::Constraint;
-use cost_tables::{CostTables, Places};
+use cost_tables::CostTables;
 use std::alloc::{AllocError, Global};
 use std::marker::Model;
 
@@ -97,74 +99,72 @@ impl<'a, R: RowStore> Pairs<'a, R> {
         reached_once(alloc, self.rows, self.net, &self.columns, src)
     }
 
-    /// The pairs of a source with destinations, in the memory of pairs that aren't needed any more.
-    ///
-    /// For each type that is asked for or tested one binary search for the source, and for each destination one
-    /// comparison of two names where its place is right, else one binary search. The places become those that were
-    /// found, so they are handed on from source to source. Where no constraint tests a pair, no tested type costs
-    /// anything.
-    pub fn from(
-        &self,
+    /// The pairs of sources with these destinations. For each type that is asked for or tested one pass over the
+    /// metrics. Where no constraint tests a pair, no tested type costs anything.
+    pub fn to<'b>(
+        &'b self,
         alloc: Global,
-        src: &PidName,
-        dsts: &[PidName],
-        places: &mut Places,
-        room: Found,
-    ) -> Result<Found, AllocError>
-        ensures { IfOk result (λ found. found ≡ map (pair_costs self.now src.now) dsts.now) }
+        dsts: &'b [PidName],
+    ) -> Result<PairsTo<'b, 'a, R>, AllocError>
+        ensures { IfOk result (λ to. to ≡ record { pairs = self.now; destinations = dsts.now }) }
     {
-        let (costs, places_shown) = room.into_room();
-        let told = told_from(
-            alloc,
-            self.tables,
-            self.net,
-            &self.columns,
-            src,
-            dsts,
-            places,
-            costs,
-        )?;
+        let (told, tested) = self.columns_to(alloc, dsts)?;
+        Ok(PairsTo::asking(self, dsts, told, tested))
+    }
+
+    /// The columns that tell the costs to destinations, and those that constraints test; none of these where one of the
+    /// lists has no constraint.
+    fn columns_to<'b>(
+        &'b self,
+        alloc: Global,
+        dsts: &'b [PidName],
+    ) -> Result<(Vec<ColumnTo<'b>>, Vec<ColumnTo<'b>>), AllocError>
+        ensures { IfOk result (λ columns. TellPairs self.now dsts.now columns.0.items columns.1.items) }
+    {
+        let told = told_to(alloc, self.tables, self.net, &self.columns, dsts)?;
         let tested = tested_if_any(
             alloc,
             self.tables,
             self.net,
             self.tested,
             self.alternatives,
-            src,
             dsts,
-            places,
         )?;
-        let shown = all_shown(
-            alloc,
-            self.alternatives,
-            &told,
-            &tested,
-            dsts.len(),
-            places_shown,
-        )?;
-        Ok(Found::new(told, shown))
+        Ok((told, tested))
+    }
+
+    /// Which of so many places of the costs make a pair, in the memory of what isn't needed any more.
+    pub(crate) fn shown(
+        &self,
+        alloc: Global,
+        told: &Table,
+        tested: &Table,
+        count: usize,
+        room: Shown,
+    ) -> Result<Shown, AllocError>
+        ensures { IfOk result (λ shown. flags_of told.now shown
+            ≡ map (is_shown self.now.alternatives told.now tested.now) (range_with_len 0 count)) }
+    {
+        all_shown(alloc, self.alternatives, told, tested, count, room)
     }
 }
 
-/// The costs that constraints test; none of them where one of the lists has no constraint.
-fn tested_if_any(
+/// The columns that constraints test; none of them where one of the lists has no constraint.
+fn tested_if_any<'a>(
     alloc: Global,
-    tables: &CostTables,
+    tables: &'a CostTables,
     net: &NetName,
     types: &[CostType],
     alternatives: &[Vec<Constraint>],
-    src: &PidName,
-    dsts: &[PidName],
-    places: &mut Places,
-) -> Result<Table, AllocError>
-    ensures { IfOk result (λ table. (rows : Rows) → AreCostsOf rows tables.now
-        → one_is_empty (map (λ constraints. constraints.items) alternatives.now) ≡ false
-        → table ≡ tested_from rows net.now types.now src.now dsts.now) }
+    dsts: &'a [PidName],
+) -> Result<Vec<ColumnTo<'a>>, AllocError>
+    ensures { IfOk result (λ tested. one_is_empty (map (λ constraints. constraints.items) alternatives.now) ≡ false
+        → tested.items ≡ tested_to tables.now net.now types.now dsts.now) }
 {
     if one_is_empty(alternatives) {
-        return Ok(Table::new(alloc));
+        return Ok(Vec::new(alloc));
     }
-    tested_from(alloc, tables, net, types, src, dsts, places)
+    tested_to(alloc, tables, net, types, dsts)
 }
 
 /// Which of so many places of the costs make a pair, in the memory of what isn't needed any more. Where no constraint

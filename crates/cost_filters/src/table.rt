@@ -1,19 +1,15 @@
 //! Costs by column, each column with one for each destination.
-ghost use Rattle.std.specs.Prelude.{◌≡◌, ◌++◌, [], ◌∷◌, false, IfOk, OnOk, map, option_map, slice_get};
-ghost use Rattle.alto_rows.specs.Rows.{Rows};
+ghost use Rattle.std.specs.Prelude.{◌≡◌, ◌++◌, [], ◌∷◌, false, IfOk, OnOk, map, slice_get};
 ghost use Rattle.serde_json.specs.View.{items_of};
 ghost use Rattle.serde_json.specs.Written.{compact_text, items_text};
-ghost use Rattle.cost_tables.specs.Tables.{AreCostsOf, cost_in};
 ghost use Rattle.cost_docs.specs.CostMap.{number_data};
-ghost use Rattle.cost_filters.specs.Columns.{column_cost, scaled};
 ghost use Rattle.cost_filters.specs.Filter.{costs_data};
-ghost use Rattle.cost_filters.specs.Pairs.{costs_at, has_cost, if_there, told_from, tested_from};
+ghost use Rattle.cost_filters.specs.Pairs.{costs_at, has_cost, if_there};
+ghost use Rattle.cost_filters.specs.PairsTo.{column_told};
 
-use crate::columns::{Column, Scale, scaled};
+use crate::column_to::ColumnTo;
 use crate::text::{push_comma, push_cost};
-use crate::types::CostType;
-use alto_names::{Metric, NetName, PidName};
-use cost_tables::{CostTables, Places};
+use alto_names::PidName;
 use std::alloc::{AllocError, Global};
 use std::marker::Model;
 
@@ -171,111 +167,40 @@ fn push_each(columns: &[Vec<Option<u64>>], at: usize, out: &mut Vec<u8>) -> Resu
     Ok(())
 }
 
-/// The costs of columns from a source to destinations, in the memory of a table that isn't needed any more.
-pub(crate) fn told_from(
+/// The costs of columns from a source, in the memory of a table that isn't needed any more, behind the columns, which
+/// are asked again.
+pub(crate) fn all_from<'a>(
     alloc: Global,
-    tables: &CostTables,
-    net: &NetName,
-    columns: &[Column],
+    columns: Vec<ColumnTo<'a>>,
     src: &PidName,
-    dsts: &[PidName],
-    places: &mut Places,
     room: Table,
-) -> Result<Table, AllocError>
-    ensures { IfOk result (λ table. (rows : Rows) → AreCostsOf rows tables.now
-        → table ≡ told_from rows net.now columns.now src.now dsts.now) }
+) -> Result<(Vec<ColumnTo<'a>>, Table), AllocError>
+    ensures same { IfOk result (λ all. all.0.items ≡ columns.entry.items) }
+    ensures costs { IfOk result (λ all. all.1 ≡ map (column_told src.now) columns.entry.items) }
 {
+    let mut again = Vec::with_capacity(alloc, columns.len())?;
     let mut table = room.into_empty();
     for column in columns {
         let none = table.spare_column(alloc);
-        table.push(column_from(alloc, tables, net, column, src, dsts, places, none)?)?;
+        let (one, costs) = one_from(alloc, column, src, none)?;
+        table.push(costs)?;
+        again.push(one)?;
     }
-    Ok(table)
+    Ok((again, table))
 }
 
-/// Those of one column, in the memory of an empty one.
-fn column_from(
+/// Those of one column, in the memory of an empty one, behind the column.
+fn one_from<'a>(
     alloc: Global,
-    tables: &CostTables,
-    net: &NetName,
-    column: &Column,
+    column: ColumnTo<'a>,
     src: &PidName,
-    dsts: &[PidName],
-    places: &mut Places,
     none: Vec<Option<u64>>,
-) -> Result<Vec<Option<u64>>, AllocError>
+) -> Result<(ColumnTo<'a>, Vec<Option<u64>>), AllocError>
     requires { none.items ≡ [] }
-    ensures { IfOk result (λ costs. (rows : Rows) → AreCostsOf rows tables.now
-        → costs.items ≡ map (λ dst. column_cost rows net.now src.now dst column.now) dsts.now) }
+    ensures same { IfOk result (λ one. one.0 ≡ column.entry) }
+    ensures costs { IfOk result (λ one. one.1.items ≡ column_told src.now column.entry) }
 {
-    let costs = costs_from(tables, net, &column.metric, src, dsts, places, none)?;
-    scaled_all(alloc, &column.scale, costs)
-}
-
-/// The costs in a metric from a source to destinations, in the memory of an empty column.
-fn costs_from(
-    tables: &CostTables,
-    net: &NetName,
-    metric: &Metric,
-    src: &PidName,
-    dsts: &[PidName],
-    places: &mut Places,
-    none: Vec<Option<u64>>,
-) -> Result<Vec<Option<u64>>, AllocError>
-    requires { none.items ≡ [] }
-    ensures { IfOk result (λ costs. costs.items ≡ map (cost_in tables.now net.now metric.now src.now) dsts.now) }
-{
-    let mut costs = none;
-    costs.reserve(dsts.len())?;
-    tables.push_costs(net, metric, src, dsts, places, &mut costs)?;
-    Ok(costs)
-}
-
-/// Costs as they are told.
-fn scaled_all(
-    alloc: Global,
-    scale: &Scale,
-    costs: Vec<Option<u64>>,
-) -> Result<Vec<Option<u64>>, AllocError>
-    ensures { IfOk result (λ all. all.items ≡ map (option_map (scaled scale.now)) costs.items) }
-{
-    match scale {
-        Scale::Numerical => Ok(costs),
-        Scale::Ordinal(_) => each_scaled(alloc, scale, &costs),
-    }
-}
-
-fn each_scaled(
-    alloc: Global,
-    scale: &Scale,
-    costs: &[Option<u64>],
-) -> Result<Vec<Option<u64>>, AllocError>
-    ensures { IfOk result (λ all. all.items ≡ map (option_map (scaled scale.now)) costs.now) }
-{
-    let mut all = Vec::with_capacity(alloc, costs.len())?;
-    for cost in costs {
-        all.push(scaled(scale, *cost))?;
-    }
-    Ok(all)
-}
-
-/// The costs by the metrics of types that constraints test.
-pub(crate) fn tested_from(
-    alloc: Global,
-    tables: &CostTables,
-    net: &NetName,
-    types: &[CostType],
-    src: &PidName,
-    dsts: &[PidName],
-    places: &mut Places,
-) -> Result<Table, AllocError>
-    ensures { IfOk result (λ table. (rows : Rows) → AreCostsOf rows tables.now
-        → table ≡ tested_from rows net.now types.now src.now dsts.now) }
-{
-    let mut table = Table::new(alloc);
-    for one in types {
-        let none = Vec::new(alloc);
-        table.push(costs_from(tables, net, &one.metric, src, dsts, places, none)?)?;
-    }
-    Ok(table)
+    let mut again = column;
+    let costs = again.from(alloc, src, none)?;
+    Ok((again, costs))
 }

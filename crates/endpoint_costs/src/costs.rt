@@ -18,7 +18,7 @@ use alto_addr::Addr;
 use alto_names::{NetName, PidName};
 use alto_rows::RowStore;
 use cost_filters::{Found, Pairs, write_types};
-use cost_tables::{CostTables, Places};
+use cost_tables::CostTables;
 use json::Writer;
 use pid_prefix::RangeTable;
 use std::alloc::{AllocError, Global};
@@ -32,8 +32,8 @@ const FIRST_ROOM: usize = 4096;
 ///
 /// For each ordinal type one walk over its metric. For each address one look-up in the table, and one sort of the
 /// addresses. Then the distinct PIDs make their pairs once: for each of the sources and each type that is asked for or
-/// tested one binary search for the source, and for each destination one comparison of two names where the costs from
-/// the source before lay alike, else one binary search.
+/// tested one binary search for the source, and one look for each destination where the source before has the same
+/// destinations.
 pub fn endpoint_cost_text<R: RowStore>(
     alloc: Global,
     rows: &R,
@@ -120,10 +120,11 @@ fn found_between<R: RowStore>(
         ≡ map (λ src. map (pair_costs pairs.now src) to.now) from.now) }
 {
     let mut found = Vec::with_capacity(alloc, from.len())?;
-    let mut places = Places::new(alloc);
+    let mut asked = pairs.to(alloc, to)?;
     for src in from {
-        let none = Found::none(alloc);
-        found.push(pairs.from(alloc, src, to, &mut places, none)?)?;
+        let (again, one) = asked.from(alloc, src, Found::none(alloc))?;
+        found.push(one)?;
+        asked = again;
     }
     Ok(found)
 }

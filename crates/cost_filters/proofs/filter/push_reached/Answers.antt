@@ -1,35 +1,35 @@
-use Rattle.std.proofs.Common.{◌≡◌, ◌∷◌, ◌∙◌, ◌+◌, ap, drop, refl, subst, sym}
+use Rattle.std.proofs.Common.{◌≡◌, ◌∷◌, ◌∙◌, ◌+◌, ap, drop, map, refl, subst}
 use Rattle.std.proofs.lemmas.List.{drop_more}
 use Rattle.std.specs.Prelude.{List, Option, None}
 use Rattle.serde_json.specs.Data.{Data}
 use Rattle.alto_maps.specs.Shape.{Name}
-use Rattle.cost_filters.specs.Columns.{columns_of, object_if_any, reached, valued}
-use Rattle.cost_filters.specs.Pairs.{pair_shown}
-use Rattle.cost_filters.specs.Text.{PutsIfAny, group_made}
-use Rattle.alto_maps.proofs.SetLemmas.{Rise}
-use Rattle.cost_filters.proofs.TextLemmas.{group_more, set_object}
+use Rattle.cost_filters.specs.Columns.{columns_of, reached}
+use Rattle.cost_filters.specs.Pairs.{pair_costs, pair_shown}
+use Rattle.cost_filters.specs.Text.{PutsIfAny, found_object, group_made}
+use Rattle.cost_filters.proofs.TextLemmas.{group_more, object_found, set_object}
 use Rattle.cost_filters.proofs.filter.push_reached.Goals as goal
-
-pub push_among-requires : goal.push_among-requires
-push_among-requires g c = subst Rise (sym c.in_ok-dsts.ensures) c.in_ok-reached.ensures.rise
 
 pub loop-src-preserved : goal.loop-src-preserved
 loop-src-preserved g c =
     let l = c.loop-src in
+    let multi = c.args.multi in
+    let pairs = c.args.pairs.now in
     let src = c.src-item.result in
     let srcs = c.args.srcs.now in
     let left = drop (l.src-index + 1) srcs in
     let step : drop l.src-index srcs ≡ src ∷ left =
     rw (drop_more srcs l.src-index src c.loop-src-test.true, ← c.src-item.is) refl in
-    let group = group_made c.args.multi None c.args.pairs.now in
-    let pairs = c.args.pairs.now in
-    let value = pair_shown c.args.multi pairs src in
+    let group = group_made multi None pairs in
+    let names = c.in_ok-reached.field-0.items in
     let all = reached pairs.rows pairs.net (columns_of pairs.rows pairs.net pairs.types) src in
-    let same : object_if_any (valued value c.in_ok-dsts.dsts) ≡ group src =
-    ap (λ (names : List Name). object_if_any (valued value names)) c.in_ok-dsts.ensures
-    ∙ set_object value c.in_ok-reached.field-0.items all c.in_ok-reached.ensures in
-    let put : PutsIfAny src (group src) l.later l.out.items c.in_ok-after.after c.push_among.new.out.items =
-    subst (λ (found : Option Data). PutsIfAny src found l.later l.out.items c.in_ok-after.after
-    c.push_among.new.out.items) same c.in_ok-after.ensures in
-    group_more group src (drop l.src-index srcs) left l.later c.in_ok-after.after l.out.items
-    c.push_among.new.out.items _ step put l.invariant
+    let found : c.in_ok-found.found ≡ map (pair_costs pairs src) names =
+    c.in_ok-found.ensures ∙ ap (λ (dsts : List Name). map (pair_costs pairs src) dsts) c.in_ok-dsts.ensures in
+    let value : found_object multi c.in_ok-dsts.dsts c.in_ok-found.found ≡ group src =
+    (λ i. found_object multi (c.in_ok-dsts.ensures i) (found i))
+    ∙ (object_found (pair_costs pairs src) multi names c.in_ok-reached.ensures.rise
+    ∙ set_object (pair_shown multi pairs src) names all c.in_ok-reached.ensures) in
+    let put : PutsIfAny src (group src) l.later l.out.items c.in_ok-later.later c.push_found.new.out.items =
+    subst (λ (d : Option Data). PutsIfAny src d l.later l.out.items c.in_ok-later.later c.push_found.new.out.items)
+    value c.in_ok-later.ensures in
+    group_more group src (drop l.src-index srcs) left l.later c.in_ok-later.later l.out.items
+    c.push_found.new.out.items _ step put l.invariant

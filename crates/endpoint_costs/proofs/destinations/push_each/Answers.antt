@@ -28,7 +28,8 @@ loop-place-preserved c =
     ∙ ap (λ (spot : Spot). member_start spot.text) (sym c.index-dsts-place.is))) in
     let put : PutsIfAny dst.text value l.later l.out.items c.in_ok-later.later c.push_pair.new.out.items =
     c.in_ok-later.ensures dst.text start in
-    any_more dst.text value (filter_map member left) l.later c.in_ok-later.later l.out.items c.push_pair.new.out.items put
+    any_more dst.text value (filter_map member left) l.later c.in_ok-later.later l.out.items
+    c.push_pair.new.out.items put
     ∙ (ap (λ (spots : List Spot). l.out.items ++ members_text l.later (members_in_order (filter_map member spots)))
     (sym step)
     ∙ l.invariant)

@@ -1,7 +1,7 @@
 use Rattle.std.proofs.Common.{◌≡◌, ◌++◌, drop, map}
 use Rattle.std.specs.Prelude.{option_map}
 use Rattle.cost_filters.specs.Columns.{scaled}
-use Rattle.cost_filters.proofs.table.each_scaled.Given as goal
+use Rattle.cost_filters.proofs.column_to.each_scaled.Given as goal
 
 abbrev pub invariant-loop-cost : goal.invariant-loop-cost
 invariant-loop-cost l =

@@ -1,7 +1,7 @@
 use Rattle.std.proofs.Common.{◌≡◌, rules}
 use Rattle.cost_filters.specs.declared.columns.Scale.TheVariants as scale
 use Rattle.cost_filters.proofs.PairsLemmas.{all_numerical}
-use Rattle.cost_filters.proofs.table.scaled_all.Goals as goal
+use Rattle.cost_filters.proofs.column_to.scaled_all.Goals as goal
 
 pub returns-in-Numerical : goal.returns-in-Numerical
 returns-in-Numerical c =
