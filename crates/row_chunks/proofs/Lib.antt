@@ -6,4 +6,5 @@ pub mod ReadLemmas
 pub mod SplitLemmas
 pub mod ApartLemmas
 pub mod RisingLemmas
+pub mod LastLemmas
 pub mod SharedLemmas

@@ -1,8 +1,7 @@
 -- Writes whose keys rise are changes as they stand, and a key that isn't after the first row goes there.
-use Rattle.std.proofs.Common.{◌≡◌, ℕ, ◌+◌, ◌<◌, ◌≤◌, refl, ap, sym, ◌∙◌, subst, arith, drop, get_or, append-nil}
-use Rattle.std.proofs.Common.{append_assoc}
+use Rattle.std.proofs.Common.{◌≡◌, ℕ, ◌+◌, ◌<◌, ◌≤◌, refl, ap, sym, ◌∙◌, subst, arith, drop, get_or}
 use Rattle.std.proofs.lemmas.List.{drop_all, drop_more}
-use Rattle.std.specs.Prelude.{true, Option, List, [], ◌∷◌, ◌++◌, Some, Ok, Err, length, slice_get}
+use Rattle.std.specs.Prelude.{true, List, [], ◌∷◌, Some, Ok, Err, length, slice_get}
 use Rattle.std.specs.List.{AllByRecursion}
 use Rattle.std.specs.List.Sorted.{IsStrictlySortedBy}
 use Rattle.std.specs.Map.{keys_of}
@@ -19,7 +18,7 @@ use Rattle.alto_rows.specs.Rows.{Rows, AreSorted, after, with_value}
 use Rattle.alto_rows.proofs.OrderLemmas.{key_cmp_exact, key_cmp_total}
 use Rattle.alto_rows.proofs.PlaceLemmas.{place_of-found, place_of-missing}
 use Rattle.alto_rows.proofs.RowsLemmas.{past_first, past_lesser}
-use Rattle.row_chunks.specs.Made.{change_made, changes_made}
+use Rattle.row_chunks.specs.Made.{changes_made}
 
 -- ---- writes as changes
 
@@ -57,7 +56,8 @@ rising_more : (last write : Write) (more : List Write) → key_cmp last.key writ
 unfolding IsStrictlySortedBy
 rising_more last write more less o = ((less, after_lesser last.key write.key less (changes_made more) o.0), o)
 
-less_tests : (o : Ordering) → is_lt o ≡ true → o ≡ Less
+-- what tests as less is
+pub less_tests : (o : Ordering) → is_lt o ≡ true → o ≡ Less
 less_tests Less h = refl
 less_tests Equal h = cc
 less_tests Greater h = cc
@@ -85,30 +85,6 @@ pub rising_ended : (last : Write) (rest : List Write) (i : ℕ) → length rest 
 rising_ended last rest i ended =
     subst (λ (more : List Write). AreOrdered (changes_made (last ∷ more))) (sym (drop_all i rest ended))
     (rising_one last)
-
--- ---- copies of writes
-
--- one copy more, of the next write
-pub made_step : (done more whole : Changes) (copy : Key × Option Value) (writes : List Write) (i : ℕ) (write : Write)
-    → i < length writes
-    → write ≡ get_or writes i write → copy ≡ change_made write → more ≡ done ++ copy ∷ []
-    → done ++ changes_made (drop i writes) ≡ whole
-    → more ++ changes_made (drop (i + 1) writes) ≡ whole
-made_step done more whole copy writes i write within is same all so_far =
-    let step : drop i writes ≡ write ∷ drop (i + 1) writes =
-    drop_more writes i write within ∙ ap (λ (one : Write). one ∷ drop (i + 1) writes) (sym is) in
-    ap (λ (front : Changes). front ++ changes_made (drop (i + 1) writes))
-    (all ∙ ap (λ (one : Key × Option Value). done ++ one ∷ []) same)
-    ∙ append_assoc done (change_made write ∷ []) (changes_made (drop (i + 1) writes))
-    ∙ ap (λ (left : List Write). done ++ changes_made left) (sym step)
-    ∙ so_far
-
--- with no write left all are copied
-pub made_ended : (done whole : Changes) (writes : List Write) (i : ℕ) → length writes ≤ i
-    → done ++ changes_made (drop i writes) ≡ whole → done ≡ whole
-made_ended done whole writes i ended so_far =
-    sym (append-nil done) ∙ ap (λ (left : List Write). done ++ changes_made left) (sym (drop_all i writes ended))
-    ∙ so_far
 
 -- ---- the first place
 

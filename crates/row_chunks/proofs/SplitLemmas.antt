@@ -1,11 +1,11 @@
 -- Changes that a cut divides.
-use Rattle.std.proofs.Common.{◌≡◌, ℕ, refl, ap, sym, ◌∙◌, append-nil, take, drop}
+use Rattle.std.proofs.Common.{◌≡◌, ℕ, refl, ap, sym, ◌∙◌, append-nil, arith, length, take, drop}
 use Rattle.std.proofs.Math.Path.{fun_ext}
-use Rattle.std.proofs.lemmas.List.{take-append-drop}
+use Rattle.std.proofs.lemmas.List.{drop_all, take-append-drop, take_all}
 use Rattle.std.proofs.lemmas.List.Elements.{filter-append}
 use Rattle.std.proofs.lemmas.List.Kept.{IsStrictlySortedBy-filter}
 use Rattle.std.proofs.lemmas.Map.Keys.{sorted_head}
-use Rattle.std.specs.Prelude.{Bool, true, false, not, List, [], ◌∷◌, filter, slice_get, Option, Some}
+use Rattle.std.specs.Prelude.{Bool, true, false, not, List, [], ◌∷◌, filter, slice_get, Option, None, Some}
 use Rattle.std.specs.List.{AllByRecursion}
 use Rattle.std.specs.List.Sorted.{IsPartitionPoint, IsStrictlySortedBy}
 use Rattle.std.specs.Map.{keys_of}
@@ -89,19 +89,19 @@ all_kept cut first changes o k = (k, by changes (sorted_head key_cmp first.0 (ke
 -- so none is before it
 pub before_from_first : (cut : Cut) (first : Key × Option Value) (changes : Changes) → AreOrdered changes
     → slice_get changes 0 ≡ Some first → keeps cut first.0 ≡ true
-    → changes_before cut changes ≡ []
+    → take 0 changes ≡ changes_before cut changes
 before_from_first cut first [] o is k = refl
 before_from_first cut first (change ∷ changes) o is k =
     let same : change ≡ first = cc in
-    before_none cut (change ∷ changes) (all_kept cut change changes o (rw same k))
+    sym (before_none cut (change ∷ changes) (all_kept cut change changes o (rw same k)))
 
 pub behind_from_first : (cut : Cut) (first : Key × Option Value) (changes : Changes) → AreOrdered changes
     → slice_get changes 0 ≡ Some first → keeps cut first.0 ≡ true
-    → changes_behind cut changes ≡ changes
+    → drop 0 changes ≡ changes_behind cut changes
 behind_from_first cut first [] o is k = refl
 behind_from_first cut first (change ∷ changes) o is k =
     let same : change ≡ first = cc in
-    behind_all cut (change ∷ changes) (all_kept cut change changes o (rw same k))
+    sym (behind_all cut (change ∷ changes) (all_kept cut change changes o (rw same k)))
 
 -- the keys of changes that pass a test of keys
 keys_of-filter : (p : Key → Bool) (changes : Changes)
@@ -157,3 +157,14 @@ pub later_by_first : (next : Placed) (key : Key) (later : List Placed) (changes 
     → filter (λ change. not (is_gt (key_cmp key change.0))) changes ≡ later_changes later changes
 later_by_first next key [] changes is at = cc
 later_by_first next key (slot ∷ later) changes is at = let same : slot ≡ next = cc in rw (same, at) refl
+
+-- with no later block all changes are the block's own
+pub own_at_last : (later : List Placed) (changes : Changes) → slice_get later 0 ≡ None
+    → take (length changes) changes ≡ own_changes later changes
+own_at_last [] changes none = take_all (length changes) changes (omega arith)
+own_at_last (slot ∷ later) changes none = cc
+
+pub later_at_last : (later : List Placed) (changes : Changes) → slice_get later 0 ≡ None
+    → drop (length changes) changes ≡ later_changes later changes
+later_at_last [] changes none = drop_all (length changes) changes (omega arith)
+later_at_last (slot ∷ later) changes none = cc

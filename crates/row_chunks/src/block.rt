@@ -6,7 +6,7 @@ ghost use Rattle.row_chunks.specs.Blocks.{first_key};
 ghost use Rattle.row_chunks.specs.Cut.{rows_behind};
 ghost use Rattle.row_chunks.specs.Shared.{AllShare};
 
-use crate::changes::Change;
+use crate::change::Change;
 use crate::cut::Cut;
 use crate::shared::Shared;
 use alto_rows::{Key, Value};

@@ -9,7 +9,7 @@ ghost use Rattle.row_chunks.specs.Shared.{AllShare};
 
 use crate::block::Block;
 use crate::builder::changed_blocks;
-use crate::changes::Change;
+use crate::change::Change;
 use crate::copies::copy_of_key;
 use crate::cut::Cut;
 use crate::pieces::pieces;

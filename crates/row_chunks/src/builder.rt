@@ -5,7 +5,8 @@ ghost use Rattle.row_chunks.specs.Blocks.{AllBegin, BeginsAt, joined};
 
 use crate::block::Block;
 use crate::blocks::Blocks;
-use crate::changes::{Change, split_changes};
+use crate::change::Change;
+use crate::changes::count_own;
 use crate::slot::Slot;
 use std::alloc::{AllocError, Global};
 use std::marker::Model;
@@ -104,11 +105,12 @@ pub(crate) fn changed_blocks<B: Block>(
         list: done.with_room(slots.len())?,
         loose: B::empty(alloc),
     };
-    let mut rest = changes;
+    let mut taken = 0;
     for at in 0..slots.len() {
-        let (own, later) = split_changes(rest, &slots[at + 1..]);
-        builder = builder.with_block(alloc, &slots[at], own)?;
-        rest = later;
+        let rest = &changes[taken..];
+        let own = count_own(rest, &slots[at + 1..]);
+        builder = builder.with_block(alloc, &slots[at], &rest[..own])?;
+        taken += own;
     }
-    builder.finished(alloc, rest)
+    builder.finished(alloc, &changes[taken..])
 }

@@ -1,32 +1,31 @@
-ghost use Rattle.std.specs.Prelude.{◌≡◌, IfOk, IsTrue};
-ghost use Rattle.std.specs.BTreeMap.{Updates};
+ghost use Rattle.std.specs.Prelude.{◌≡◌, ◌≤◌, ◌++◌, IfOk, IsTrue, drop, length, take};
+ghost use Rattle.std.specs.List.Sorted.{IsSortedByKey, IsStableByKey};
 ghost use Rattle.std.specs.Ordering.{is_lt};
-ghost use Rattle.alto_rows.specs.Changes.{AreOrdered, DoAs};
+ghost use Rattle.alto_rows.specs.Changes.{AreOrdered, DoAs, changed};
 ghost use Rattle.alto_rows.specs.Order.{key_cmp};
-ghost use Rattle.row_chunks.specs.Made.{changes_made};
+ghost use Rattle.alto_rows.specs.Rows.{Rows, AreSorted};
+ghost use Rattle.row_chunks.specs.Made.{changes_made, last_of};
 ghost use Rattle.row_chunks.specs.Split.{changes_before, changes_behind, later_changes, own_changes};
 
 use crate::block::Block;
-use crate::copies::{copy_of_key, copy_of_value};
+use crate::change::Change;
 use crate::cut::Cut;
 use crate::slot::Slot;
-use alto_rows::{Key, Value, Write};
+use alto_rows::{Key, Write};
 use std::alloc::{AllocError, Global};
-use std::collections::BTreeMap;
 
-/// A key with the value that it then has, if any.
-pub(crate) type Change = (Key, Option<Value>);
-
-/// What the last write of each key gives it, in the order of the keys. One comparison a write where their keys rise,
-/// else w writes cost w log w.
+/// The last write of each key, in the order of the keys. One comparison a write where their keys rise. Else they are
+/// sorted: a few comparisons a write where they are some rising runs one behind another, and w writes cost w log w at
+/// most.
 pub(crate) fn changes_of(alloc: Global, writes: &[Write]) -> Result<Vec<Change>, AllocError>
     ensures does { IfOk result (λ changes. DoAs writes.now changes.items) }
     ensures ordered { IfOk result (λ changes. AreOrdered changes.items) }
 {
+    let made = made_of(alloc, writes)?;
     if are_rising(writes) {
-        return made_of(alloc, writes);
+        return Ok(made);
     }
-    in_order(alloc, last_values(alloc, writes)?)
+    last_of_each(alloc, &in_order(made)?)
 }
 
 /// Whether the keys of writes rise. One comparison a write, up to the first that doesn't.
@@ -60,80 +59,79 @@ fn made_of(alloc: Global, writes: &[Write]) -> Result<Vec<Change>, AllocError>
 {
     let mut changes = Vec::with_capacity(alloc, writes.len())?;
     for write in writes {
-        changes.push(copy_of_write(write)?)?;
+        changes.push(Change::new(write))?;
     }
     Ok(changes)
 }
 
-/// The changes of a block, which are those before the first key of the next, and those of the blocks from there on.
-pub(crate) fn split_changes<'a, B: Block>(
-    changes: &'a [Change],
-    later: &[Slot<B>],
-) -> (&'a [Change], &'a [Change])
-    requires { AreOrdered changes.now }
-    ensures own { result.0.now ≡ own_changes later.now changes.now }
-    ensures rest { result.1.now ≡ later_changes later.now changes.now }
+/// The changes in the order of their keys, those of one key in the order that they had.
+fn in_order(changes: Vec<Change>) -> Result<Vec<Change>, AllocError>
+    ensures sorted { IfOk result (λ all. IsSortedByKey (λ change. change.0) key_cmp all.items) }
+    ensures stable { IfOk result (λ all. IsStableByKey (λ change. change.0) key_cmp changes.entry.items all.items) }
 {
-    let Some(next) = later.first() else {
-        return (changes, &[]);
-    };
-    split_at_cut(changes, &Cut::Before(next.key()))
+    let mut all = changes;
+    all.sort_by(|one, other| one.key().cmp(other.key()))?;
+    Ok(all)
 }
 
-/// The changes before a cut and those behind it. No search where the first isn't before it.
-fn split_at_cut<'a>(changes: &'a [Change], cut: &Cut) -> (&'a [Change], &'a [Change])
-    requires { AreOrdered changes.now }
-    ensures before { result.0.now ≡ changes_before cut.now changes.now }
-    ensures behind { result.1.now ≡ changes_behind cut.now changes.now }
+/// The last change of each key, where they are in the order of their keys. One comparison a change.
+fn last_of_each<'a>(alloc: Global, changes: &[Change<'a>]) -> Result<Vec<Change<'a>>, AllocError>
+    requires { IsSortedByKey (λ change. change.0) key_cmp changes.now }
+    ensures same { IfOk result (λ last. (rows : Rows) → AreSorted rows
+        → changed rows last.items ≡ changed rows changes.now) }
+    ensures ordered { IfOk result (λ last. AreOrdered last.items) }
 {
-    let Some(first) = changes.first() else {
-        return (&[], &[]);
-    };
-    if cut.keeps(&first.0) {
-        return (&[], changes);
-    }
-    changes.split_at(changes.partition_point(|change| !cut.keeps(&change.0)))
-}
-
-/// What the last write of each key gives it.
-fn last_values(alloc: Global, writes: &[Write]) -> Result<BTreeMap<Key, Option<Value>>, AllocError>
-    ensures does { IfOk result (λ changes. DoAs writes.now changes.entries) }
-    ensures ordered { IfOk result (λ changes. AreOrdered changes.entries) }
-{
-    let mut last = BTreeMap::new(alloc);
-    for write in writes {
-        last = with_last(last, write)?;
+    let mut last = Vec::with_capacity(alloc, changes.len())?;
+    for at in 0..changes.len() {
+        last = with_last(last, &changes[at], &changes[at + 1..])?;
     }
     Ok(last)
 }
 
-/// The changes with one more, in place of an earlier one of its key.
-fn with_last(
-    last: BTreeMap<Key, Option<Value>>,
-    write: &Write,
-) -> Result<BTreeMap<Key, Option<Value>>, AllocError>
-    ensures updates { IfOk result (λ all. Updates key_cmp last all write.now.key (Some write.now.value)) }
-    ensures ordered { IfOk result (λ all. AreOrdered all.entries) }
+/// The changes with one more where it is the last of its key, with these behind it.
+fn with_last<'a>(
+    last: Vec<Change<'a>>,
+    change: &Change<'a>,
+    behind: &[Change],
+) -> Result<Vec<Change<'a>>, AllocError>
+    ensures { IfOk result (λ all. all.items ≡ last.entry.items ++ last_of change.now behind.now) }
 {
+    if let Some(next) = behind.first() {
+        if !is_before(change.key(), next.key()) {
+            return Ok(last);
+        }
+    }
     let mut all = last;
-    let (key, value) = copy_of_write(write)?;
-    drop(all.insert(key, value)?);
+    all.push(change.again())?;
     Ok(all)
 }
 
-/// The changes of a map as a list.
-fn in_order(alloc: Global, map: BTreeMap<Key, Option<Value>>) -> Result<Vec<Change>, AllocError>
-    ensures { IfOk result (λ changes. changes.items ≡ map.entries) }
+/// How many of the changes are those of a block, which are those before the first key of the next: all where it is the
+/// last.
+pub(crate) fn count_own<B: Block>(changes: &[Change], later: &[Slot<B>]) -> usize
+    requires { AreOrdered changes.now }
+    ensures within { result ≤ length changes.now }
+    ensures own { take result changes.now ≡ own_changes later.now changes.now }
+    ensures rest { drop result changes.now ≡ later_changes later.now changes.now }
 {
-    let mut changes = Vec::with_capacity(alloc, map.len())?;
-    for (key, value) in map {
-        changes.push((key, value))?;
+    match later.first() {
+        Some(next) => count_before(changes, &Cut::Before(next.key())),
+        None => changes.len(),
     }
-    Ok(changes)
 }
 
-fn copy_of_write(write: &Write) -> Result<Change, AllocError>
-    ensures { IfOk result (λ copy. copy ≡ (write.now.key, write.now.value)) }
+/// How many changes are before a cut. No search where the first isn't.
+fn count_before(changes: &[Change], cut: &Cut) -> usize
+    requires { AreOrdered changes.now }
+    ensures within { result ≤ length changes.now }
+    ensures before { take result changes.now ≡ changes_before cut.now changes.now }
+    ensures behind { drop result changes.now ≡ changes_behind cut.now changes.now }
 {
-    Ok((copy_of_key(&write.key)?, copy_of_value(&write.value)?))
+    let Some(first) = changes.first() else {
+        return 0;
+    };
+    if cut.keeps(first.key()) {
+        return 0;
+    }
+    changes.partition_point(|change| !cut.keeps(change.key()))
 }

@@ -7,7 +7,7 @@ ghost use Rattle.row_chunks.specs.Cut.{rows_behind};
 ghost use Rattle.row_chunks.specs.Shared.{AllShare};
 
 use crate::block::Block;
-use crate::changes::Change;
+use crate::change::Change;
 use crate::cut::Cut;
 use crate::merge::with_changed;
 use crate::pieces::pieces;

@@ -17,6 +17,7 @@
 mod block;
 mod blocks;
 mod builder;
+mod change;
 mod changes;
 mod chunk;
 mod copies;

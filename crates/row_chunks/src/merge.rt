@@ -4,7 +4,7 @@ ghost use Rattle.alto_rows.specs.Changes.{AreOrdered, changed, own_row};
 ghost use Rattle.alto_rows.specs.Place.{place_of, rows_before};
 ghost use Rattle.alto_rows.specs.Rows.{AreSorted, rows_past};
 
-use crate::changes::Change;
+use crate::change::Change;
 use crate::copies::{copy_of_key, copy_of_row, copy_of_value};
 use alto_rows::{Key, Value};
 use std::alloc::AllocError;
@@ -25,7 +25,7 @@ pub(crate) fn with_changed(
     all.reserve(rows.len().saturating_add(changes.len()))?;
     let mut rest = rows;
     for change in changes {
-        let (head, past) = split_round(rest, &change.0);
+        let (head, past) = split_round(rest, change.key());
         all = with_copies(all, head)?;
         all = with_own(all, change)?;
         rest = past;
@@ -65,11 +65,11 @@ fn place(rows: &[(Key, Value)], key: &Key) -> Result<usize, usize>
 fn with_own(done: Vec<(Key, Value)>, change: &Change) -> Result<Vec<(Key, Value)>, AllocError>
     ensures { IfOk result (λ all. all.items ≡ done.items ++ own_row change.now.0 change.now.1) }
 {
-    let Some(value) = copy_of_value(&change.1)? else {
+    let Some(value) = copy_of_value(change.value())? else {
         return Ok(done);
     };
     let mut all = done;
-    all.push((copy_of_key(&change.0)?, value))?;
+    all.push((copy_of_key(change.key())?, value))?;
     Ok(all)
 }
 

@@ -1,7 +1,7 @@
 -- Each block takes its own changes, and the blocks behind it the others.
-use Rattle.std.proofs.Common.{◌≡◌, ◌+◌, ◌∷◌, ◌++◌, ap, sym, ◌∙◌, drop}
-use Rattle.std.proofs.lemmas.List.{drop_more, take_rest}
-use Rattle.alto_rows.specs.Changes.{changed}
+use Rattle.std.proofs.Common.{◌≡◌, ◌+◌, ◌-◌, ◌≤◌, ◌∷◌, ◌++◌, ap, sym, ◌∙◌, subst, arith, drop, length, take}
+use Rattle.std.proofs.lemmas.List.{drop-drop, drop_more, length-drop, take_rest}
+use Rattle.alto_rows.specs.Changes.{Changes, AreOrdered, changed}
 use Rattle.alto_rows.specs.Rows.{AreSorted}
 use Rattle.alto_rows.proofs.RowsLemmas.{sorted_left}
 use Rattle.row_chunks.specs.Blocks.{Placed, joined}
@@ -25,25 +25,35 @@ with_block-requires-clause-sorted g c =
 
 pub with_block-requires-clause-ordered : goal.with_block-requires-clause-ordered
 with_block-requires-clause-ordered g c =
-    rw c.split_changes.ensures.own (ordered_own _ c.loop-at.rest.now c.loop-at.invariant.ordered)
+    let rest = drop c.loop-at.taken c.args.changes.now in
+    subst (λ (own : Changes). AreOrdered own) (sym c.count_own-own.ensures.own)
+    (rw (take_rest c.args.changes.now c.loop-at.taken) (ordered_own _ rest c.loop-at.invariant.ordered))
 
 pub loop-at-preserved : goal.loop-at-preserved
 loop-at-preserved g c =
     let slots = c.args.slots.now in
+    let changes = c.args.changes.now in
     let l = c.loop-at in
     let slot = c.index-slots-at.result in
-    let rest = l.rest.now in
+    let own = c.count_own-own.result in
+    let rest = drop l.taken changes in
     let later = drop (l.at + 1) slots in
     let step : drop l.at slots ≡ slot ∷ later =
     drop_more slots l.at slot c.loop-at-test.true ∙ ap (λ (one : Placed). one ∷ later) (sym c.index-slots-at.is) in
-    let own : c.split_changes.result.0.now ≡ own_changes later rest =
-    rw (take_rest slots (l.at + 1)) at c.split_changes.ensures.own in
-    let others : c.split_changes.result.1.now ≡ later_changes later rest =
-    rw (take_rest slots (l.at + 1)) at c.split_changes.ensures.rest in
+    let mine : take own rest ≡ own_changes later rest =
+    rw (take_rest changes l.taken, take_rest slots (l.at + 1)) at c.count_own-own.ensures.own in
+    let others : drop own rest ≡ later_changes later rest =
+    rw (take_rest changes l.taken, take_rest slots (l.at + 1)) at c.count_own-own.ensures.rest in
+    let left : drop (l.taken + own) changes ≡ later_changes later rest =
+    sym (drop-drop own l.taken changes) ∙ others in
+    let within : own ≤ length rest = rw (take_rest changes l.taken) at c.count_own-own.ensures.within in
+    let room : length rest ≡ length changes - l.taken = length-drop l.taken changes in
     record {
       whole =
-          rw (c.in_ok-builder.ensures, own, others)
-          (changed_more l.builder (c.args.done ++ changed (joined slots) c.args.changes.now) slots l.at slot rest
+          rw (c.in_ok-builder.ensures, take_rest changes l.taken, mine, left)
+          (changed_more l.builder (c.args.done ++ changed (joined slots) changes) slots l.at slot rest
           c.requires.begin c.requires.sorted step l.invariant.whole);
-      ordered = rw others (ordered_later later rest l.invariant.ordered);
+      within = omega (arith, within, room, l.invariant.within);
+      ordered =
+          subst (λ (more : Changes). AreOrdered more) (sym left) (ordered_later later rest l.invariant.ordered);
     }

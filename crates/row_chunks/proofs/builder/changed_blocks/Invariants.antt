@@ -1,4 +1,4 @@
-use Rattle.std.proofs.Common.{◌≡◌, ◌++◌, drop}
+use Rattle.std.proofs.Common.{◌≡◌, ◌≤◌, ◌++◌, drop, length}
 use Rattle.alto_rows.specs.Changes.{AreOrdered, changed}
 use Rattle.row_chunks.specs.Blocks.{joined}
 use Rattle.row_chunks.proofs.builder.changed_blocks.Given as goal
@@ -7,7 +7,8 @@ use Rattle.row_chunks.proofs.builder.changed_blocks.Given as goal
 abbrev pub invariant-loop-at : goal.invariant-loop-at
 invariant-loop-at g l =
     record {
-      whole : l.builder ++ changed (joined (drop l.at l.slots)) l.rest
+      whole : l.builder ++ changed (joined (drop l.at l.slots)) (drop l.taken l.changes)
           ≡ l.fn.done ++ changed (joined l.slots) l.fn.changes;
-      ordered : AreOrdered l.rest;
+      within : l.taken ≤ length l.changes;
+      ordered : AreOrdered (drop l.taken l.changes);
     }

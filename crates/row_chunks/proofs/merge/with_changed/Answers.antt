@@ -26,10 +26,12 @@ loop-change-preserved c =
     let ordered : AreOrdered (change ∷ left) =
     subst (λ (changes : Changes). AreOrdered changes) step l.invariant.ordered in
     let passed : c.in_ok-all.all.items ≡ l.all.items ++ rows_before rows change.0 =
-    c.in_ok-all.ensures ∙ ap (λ (more : Rows). l.all.items ++ more) c.split_round.ensures.before in
+    c.in_ok-all.ensures ∙ ap (λ (more : Rows). l.all.items ++ more)
+    (c.split_round.ensures.before ∙ ap (λ (key : Key). rows_before rows key) c.key.ensures) in
     let put : c.in_ok-all-2.all.items ≡ (l.all.items ++ rows_before rows change.0) ++ own_row change.0 change.1 =
     c.in_ok-all-2.ensures ∙ ap (λ (more : Rows). more ++ own_row change.0 change.1) passed in
-    let past : c.split_round.result.1.now ≡ rows_past rows change.0 = c.split_round.ensures.past in
+    let past : c.split_round.result.1.now ≡ rows_past rows change.0 =
+    c.split_round.ensures.past ∙ ap (λ (key : Key). rows_past rows key) c.key.ensures in
     record {
       whole = rw (put, past) (merged_more l.all.items
           rows (c.args.done.items ++ changed c.args.rows.now c.args.changes.now) change.0 change.1 left
