@@ -8,3 +8,4 @@ pub mod PushedLemmas
 pub mod ResourceLemmas
 pub mod TableLemmas
 pub mod TextLemmas
+pub mod FoundKeyLemmas

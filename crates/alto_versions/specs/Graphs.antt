@@ -1,9 +1,10 @@
 -- The updates graphs of a version, and what a batch makes of them.
-use Rattle.std.specs.Prelude.{◌-◌, nat_lt, List, [], ◌∷◌, map, Option, Some, None, if◌then◌else◌}
+use Rattle.std.specs.Prelude.{◌≡◌, ⊤, ◌-◌, nat_lt, List, [], ◌∷◌, map, Option, Some, None, if◌then◌else◌}
 use Rattle.std.specs.Arc.{arc_value}
 use Rattle.std.specs.BTreeMap.{is_at}
 use Rattle.std.specs.Ordering.{is_lt}
 use Rattle.std.specs.declared.sync.Arc.{Arc}
+use Rattle.alto_rows.specs.declared.key.Key.{Key}
 use Rattle.alto_rows.specs.declared.resource.Resource.{Resource}
 use Rattle.alto_rows.specs.declared.write.Write.{Write}
 use Rattle.alto_rows.specs.Order.{resource_cmp}
@@ -38,3 +39,9 @@ graphs_from (entry ∷ rest) of = if is_lt (resource_cmp entry.0 of) then graphs
 abbrev pub leading_graph : List (Resource × GraphData) → Resource → Option GraphData
 leading_graph [] of = None
 leading_graph (entry ∷ rest) of = if is_at (resource_cmp of) entry.0 then Some entry.1 else None
+
+-- keys are those of the writes that touch the resources, one list for each, as far as there are some
+abbrev pub AreTouching : List Write → List (List Key) → List Resource → Type 0
+AreTouching writes [] resources = ⊤
+AreTouching writes (keys ∷ found) [] = ⊤
+AreTouching writes (keys ∷ found) (of ∷ resources) = (keys ≡ touching of writes) × AreTouching writes found resources

@@ -52,7 +52,8 @@ impl<R: RowStore> Course<R> {
             → R.rows (arc_value rows) ≡ book.base → Follows course book) }
     {
         let none = Vec::new(alloc);
-        let graphs = graphs_after(alloc, &none, &[], &rows, &[])?;
+        let resources = resources_of(alloc, &*rows)?;
+        let graphs = graphs_after(alloc, &none, &[], &rows, resources, &[], Vec::new(alloc))?;
         Ok(Course {
             n: number,
             rows,
@@ -79,7 +80,16 @@ impl<R: RowStore> Course<R> {
             → writes.now ≡ batch.writes → Follows self.now book → Follows course (with_batch book batch)) }
     {
         let rows = Arc::new(alloc, rows)?;
-        let graphs = graphs_after(alloc, &self.graphs, &[], &rows, writes)?;
+        let resources = resources_of(alloc, &*rows)?;
+        let graphs = graphs_after(
+            alloc,
+            &self.graphs,
+            &[],
+            &rows,
+            resources,
+            writes,
+            Vec::new(alloc),
+        )?;
         Ok(Course {
             n: self.n + 1,
             rows,

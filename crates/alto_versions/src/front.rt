@@ -13,9 +13,9 @@ ghost use Rattle.alto_versions.specs.Texts.{declared_text};
 
 use crate::followed::Followed;
 use crate::graphs::{graphs_after, is_same};
-use crate::resources::resources_of;
+use crate::resources::{copies_of, resources_of};
 use crate::tables::{table_of, tables_after};
-use crate::texts::{text_of, texts_after};
+use crate::texts::{TextsWithKeys, text_of, texts_after};
 use alto_names::NetName;
 use alto_rows::{Batch, Resource, RowStore};
 use cost_tables::CostTables;
@@ -120,9 +120,9 @@ impl<R: RowStore> Front<R> {
 
     /// The version after one batch more. It shares what the batch left.
     ///
-    /// Costs what the store's `with` costs, two searches for each declared resource, a look at each write for each of
-    /// those that the batch gave a number, twice for each declared resource and once for each network and for each
-    /// metric, a range table for each network whose prefixes it wrote, for each map that it changed a walk over the
+    /// Costs what the store's `with` costs, two searches for each declared resource, a look at each write, twice for
+    /// each declared resource and once for each network and for each metric, a copy of each key for each resource that
+    /// it touches, a range table for each network whose prefixes it wrote, for each map that it changed a walk over the
     /// groups and the writing of those that it touched, and for each metric of which it wrote a cost a walk over the
     /// sources, and one over the rows of each source of which it wrote one.
     pub fn with(&self, alloc: Global, batch: &Batch) -> Result<Front<R>, AllocError>
@@ -132,10 +132,21 @@ impl<R: RowStore> Front<R> {
             → StandsFor self.now book → StandsFor version (with_batch book batch.now)) }
     {
         let rows = Arc::new(alloc, self.rows.with(alloc, &batch.writes)?)?;
-        let texts = texts_after(alloc, &self.texts, &*rows, &batch.writes)?;
-        let graphs = graphs_after(alloc, &self.graphs, &texts, &rows, &batch.writes)?;
-        let tables = tables_after(alloc, &self.tables, &*rows, &batch.writes)?;
         let resources = resources_of(alloc, &*rows)?;
+        let of_texts = copies_of(alloc, &resources)?;
+        let of_graphs = copies_of(alloc, &resources)?;
+        let renewed = texts_after(alloc, &self.texts, &*rows, of_texts, &batch.writes)?;
+        let TextsWithKeys { texts, keys } = renewed;
+        let graphs = graphs_after(
+            alloc,
+            &self.graphs,
+            &texts,
+            &rows,
+            of_graphs,
+            &batch.writes,
+            keys,
+        )?;
+        let tables = tables_after(alloc, &self.tables, &*rows, &batch.writes)?;
         let costs = self.costs.after(alloc, &*rows, &resources, &batch.writes)?;
         Ok(Front {
             n: self.n + 1,

@@ -1,11 +1,11 @@
 //! The updates graphs of a version, made from those of the version before. All that a batch left is shared.
-ghost use Rattle.std.specs.Prelude.{◌≡◌, ◌≤◌, ◌<◌, ◌^◌, ◌-◌, [], true, IfOk, IfSome, option_map};
+ghost use Rattle.std.specs.Prelude.{◌≡◌, ◌≤◌, ◌<◌, ◌^◌, ◌-◌, [], true, IfOk, IfSome, map, option_map};
 ghost use Rattle.std.specs.Arc.{arc_value};
 ghost use Rattle.std.specs.BTreeMap.{is_at};
 ghost use Rattle.std.specs.Ordering.{is_lt};
 ghost use Rattle.alto_rows.specs.Good.{AreGood};
 ghost use Rattle.alto_rows.specs.Order.{resource_cmp};
-ghost use Rattle.alto_rows.specs.Versions.{is_declared, version_of, window_of};
+ghost use Rattle.alto_rows.specs.Versions.{is_declared, resources_of, version_of, window_of};
 ghost use Rattle.alto_rows.specs.declared.key.Key.TheVariants as keys;
 ghost use Rattle.alto_rows.specs.declared.resource.Resource.{Resource as TheResource};
 ghost use Rattle.alto_rows.specs.Accepted.{Accepted};
@@ -14,13 +14,12 @@ ghost use Rattle.alto_book.specs.Book.{Book, rows_of};
 ghost use Rattle.alto_book.specs.Legal.{IsLegal};
 ghost use Rattle.alto_book.specs.Numbers as spec;
 ghost use Rattle.alto_versions.specs.Front.{graphs_of};
-ghost use Rattle.alto_versions.specs.Graphs.{entries, push_after};
+ghost use Rattle.alto_versions.specs.Graphs.{AreTouching, entries, push_after};
 ghost use Rattle.tips_graph.specs.Graph.{with_push};
 ghost use Rattle.alto_versions.specs.Graphs as made;
 ghost use Rattle.alto_versions.specs.Texts.{map_pieces, text_in};
 
 use crate::followed::Followed;
-use crate::resources::resources_of;
 use crate::texts::text_of;
 use alto_rows::{Key, Resource, RowStore, Value, Write, touches};
 use doc_pieces::Pieces;
@@ -28,18 +27,24 @@ use std::alloc::{AllocError, Global};
 use std::sync::Arc;
 
 /// The updates graphs after a batch with these writes, which led to these rows. They share the rows, and the graphs of
-/// all that the batch gave no number. With no graphs and no writes they are those of a base with these rows.
+/// all that the batch gave no number. With no graphs and no writes they are those of a base with these rows. The keys
+/// that touch each resource may have been found.
 ///
-/// Costs a walk over the rows of the networks and metrics, one over the graphs, a search for each declared resource,
-/// and a look at each write for each that has a new number.
+/// Costs a walk over the graphs, a search for each declared resource, which these are, and, where the keys haven't been
+/// found, a look at each write for each that has a new number.
 pub(crate) fn graphs_after<R: RowStore>(
     alloc: Global,
     graphs: &[(Resource, Arc<Followed<R>>)],
     texts: &[(Resource, Arc<Pieces>)],
     rows: &Arc<R>,
+    resources: Vec<Resource>,
     writes: &[Write],
+    keys: Vec<Vec<Key>>,
 ) -> Result<Vec<(Resource, Arc<Followed<R>>)>, AllocError>
     requires good { AreGood (R.rows (arc_value rows.now)) }
+    requires resources { resources.items ≡ resources_of (R.rows (arc_value rows.now)) }
+    requires keys { AreTouching writes.now (map (λ keys. keys.items) keys.items)
+        (resources_of (R.rows (arc_value rows.now))) }
     requires texts { (of : TheResource)
         → IfSome (text_in (entries texts.now) of) (λ text. text ≡ map_pieces (R.rows (arc_value rows.now)) of) }
     ensures later { IfOk result (λ after. (book : Book) (batch : Accepted) → IsLegal book
@@ -50,9 +55,11 @@ pub(crate) fn graphs_after<R: RowStore>(
         → entries graphs.now ≡ [] → writes.now ≡ [] → entries after.items ≡ graphs_of book) }
 {
     let mut left = graphs;
+    let mut found = keys.into_iter();
     let mut after = Vec::new(alloc);
-    for of in resources_of(alloc, &**rows)? {
+    for of in resources {
         left = graphs_from(left, &of);
+        let own = found.next();
         let graph = graph_after(
             alloc,
             leading_graph(left, &of),
@@ -60,6 +67,7 @@ pub(crate) fn graphs_after<R: RowStore>(
             &of,
             rows,
             writes,
+            own,
         )?;
         after.push((of, graph))?;
     }
@@ -120,7 +128,7 @@ fn is_before(of: &Resource, other: &Resource) -> bool
 }
 
 /// The graph of a resource after a batch with these writes, which led to these rows: the same where it has no new
-/// version, and begun with its version where it had none.
+/// version, and begun with its version where it had none. The keys that touch the resource may have been found.
 fn graph_after<R: RowStore>(
     alloc: Global,
     graph: Option<&Arc<Followed<R>>>,
@@ -128,7 +136,9 @@ fn graph_after<R: RowStore>(
     of: &Resource,
     rows: &Arc<R>,
     writes: &[Write],
+    keys: Option<Vec<Key>>,
 ) -> Result<Arc<Followed<R>>, AllocError>
+    requires keys { IfSome keys (λ found. found.items ≡ spec.touching of.now writes.now) }
     requires good { AreGood (R.rows (arc_value rows.now)) }
     requires declared { is_declared (R.rows (arc_value rows.now)) of.now ≡ true }
     requires text { IfSome (option_map (λ text. arc_value text.now) text)
@@ -145,10 +155,10 @@ fn graph_after<R: RowStore>(
             window(&**rows),
             version.saturating_sub(1),
         )?;
-        return pushed(alloc, &begun, text, of, rows, writes);
+        return pushed(alloc, &begun, text, of, rows, writes, keys);
     };
     if graph.graph().reached() < version {
-        return pushed(alloc, graph, text, of, rows, writes);
+        return pushed(alloc, graph, text, of, rows, writes, keys);
     }
     Arc::try_clone(graph)
 }
@@ -161,7 +171,9 @@ fn pushed<R: RowStore>(
     of: &Resource,
     rows: &Arc<R>,
     writes: &[Write],
+    keys: Option<Vec<Key>>,
 ) -> Result<Arc<Followed<R>>, AllocError>
+    requires keys { IfSome keys (λ found. found.items ≡ spec.touching of.now writes.now) }
     requires room { graph.now.last < 2 ^ 63 - 1 }
     requires good { AreGood (R.rows (arc_value rows.now)) }
     requires declared { is_declared (R.rows (arc_value rows.now)) of.now ≡ true }
@@ -170,7 +182,7 @@ fn pushed<R: RowStore>(
     ensures { IfOk result (λ after. arc_value after
         ≡ with_push graph.now (push_after of.now (R.rows (arc_value rows.now)) writes.now)) }
 {
-    let keys = touching(alloc, of, writes)?;
+    let keys = found_or_touching(alloc, keys, of, writes)?;
     Ok(Arc::new(alloc, graph.push(alloc, of, rows, keys, text)?)?)
 }
 
@@ -209,6 +221,22 @@ fn window<R: RowStore>(rows: &R) -> u32
     match rows.get(&Key::Window) {
         Some(Value::Num(n)) => *n as u32,
         _ => 0,
+    }
+}
+
+/// The keys that touch a resource, of these writes, where they haven't been found.
+fn found_or_touching(
+    alloc: Global,
+    found: Option<Vec<Key>>,
+    of: &Resource,
+    writes: &[Write],
+) -> Result<Vec<Key>, AllocError>
+    requires { IfSome found (λ keys. keys.items ≡ spec.touching of.now writes.now) }
+    ensures { IfOk result (λ keys. keys.items ≡ spec.touching of.now writes.now) }
+{
+    match found {
+        Some(keys) => Ok(keys),
+        None => touching(alloc, of, writes),
     }
 }
 

@@ -7,6 +7,7 @@ ghost use Rattle.alto_rows.specs.Versions as spec;
 ghost use Rattle.alto_rows.specs.Versions.{cost_declared, net_declared};
 ghost use Rattle.alto_versions.specs.Resources.{costs_of};
 
+use crate::graphs::copy_of;
 use alto_names::{Metric, NetName};
 use alto_rows::{Key, Resource, RowStore, Span, Within, rows_in};
 use std::alloc::{AllocError, Global};
@@ -27,6 +28,17 @@ pub(crate) fn resources_of<R: RowStore>(
     add_cost_maps(rows, &nets, &mut resources)?;
     add_property_maps(&nets, &mut resources)?;
     Ok(resources)
+}
+
+/// Copies of resources.
+pub(crate) fn copies_of(alloc: Global, resources: &[Resource]) -> Result<Vec<Resource>, AllocError>
+    ensures { IfOk result (λ copies. copies.items ≡ resources.now) }
+{
+    let mut copies = Vec::with_capacity(alloc, resources.len())?;
+    for of in resources {
+        copies.push(copy_of(of)?)?;
+    }
+    Ok(copies)
 }
 
 /// The declared networks, in the order of their names.

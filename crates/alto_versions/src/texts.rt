@@ -1,12 +1,13 @@
 //! The texts of the documents of a version, in pieces, made from those of the version before. All pieces that a batch
 //! left are shared.
-ghost use Rattle.std.specs.Prelude.{◌≡◌, true, IfOk, IfSome, All, option_map};
+ghost use Rattle.std.specs.Prelude.{◌≡◌, true, IfOk, IfSome, All, map, option_map};
 ghost use Rattle.std.specs.Arc.{arc_value};
 ghost use Rattle.alto_rows.specs.Good.{AreGood};
 ghost use Rattle.alto_rows.specs.Rows.{Rows};
 ghost use Rattle.alto_rows.specs.Rows as spec;
-ghost use Rattle.alto_rows.specs.Versions.{is_declared};
-ghost use Rattle.alto_versions.specs.Graphs.{entries};
+ghost use Rattle.alto_rows.specs.Versions.{is_declared, resources_of as declared_resources};
+ghost use Rattle.alto_book.specs.Numbers.{touching as spec_touching};
+ghost use Rattle.alto_versions.specs.Graphs.{AreTouching, entries};
 ghost use Rattle.alto_versions.specs.Texts as made;
 ghost use Rattle.alto_versions.specs.Texts.{AreTextsOf, IsTextOf, map_pieces, text_in};
 ghost use Rattle.net_docs.specs.Differ.{DifferBy};
@@ -21,27 +22,47 @@ use prop_docs::{PropMap, prop_places};
 use std::alloc::{AllocError, Global};
 use std::sync::Arc;
 
-/// The texts of the documents after a batch with these writes, which led to these rows: one for each declared resource.
-/// The groups that the batch left are shared.
+/// The texts of documents after a batch: one for each declared resource, and the keys of the batch that touch it.
+#[derive(Drop)]
+pub(crate) struct TextsWithKeys {
+    /// The texts, in the order of resources.
+    pub(crate) texts: Vec<(Resource, Arc<Pieces>)>,
+    /// The keys that touch each of these resources.
+    pub(crate) keys: Vec<Vec<Key>>,
+}
+
+/// The texts of the documents after a batch with these writes, which led to these rows: one for each declared resource,
+/// which these are. The groups that the batch left are shared. The keys that touch each resource are found and copied
+/// once, and handed on.
 ///
-/// Costs a walk over the rows of the networks and metrics, a look at each text and at each write for each resource, and
-/// for each that the batch touched one walk over its groups and the writing of those that the batch touched.
+/// Costs a look at each text and at each write for each resource, and for each that the batch touched one walk over its
+/// groups and the writing of those that the batch touched.
 pub(crate) fn texts_after<R: RowStore>(
     alloc: Global,
     texts: &[(Resource, Arc<Pieces>)],
     rows: &R,
+    resources: Vec<Resource>,
     writes: &[Write],
-) -> Result<Vec<(Resource, Arc<Pieces>)>, AllocError>
-    requires { AreGood (R.rows rows.now) }
-    ensures { IfOk result (λ after. (before : Rows) → R.rows rows.now ≡ spec.after before writes.now
-        → AreTextsOf before (entries texts.now) → AreTextsOf (R.rows rows.now) (entries after.items)) }
+) -> Result<TextsWithKeys, AllocError>
+    requires good { AreGood (R.rows rows.now) }
+    requires resources { resources.items ≡ declared_resources (R.rows rows.now) }
+    ensures texts { IfOk result (λ after. (before : Rows) → R.rows rows.now ≡ spec.after before writes.now
+        → AreTextsOf before (entries texts.now) → AreTextsOf (R.rows rows.now) (entries after.texts.items)) }
+    ensures keys { IfOk result (λ after.
+        AreTouching writes.now (map (λ keys. keys.items) after.keys.items) (declared_resources (R.rows rows.now))) }
 {
     let mut after = Vec::new(alloc);
-    for of in resources_of(alloc, rows)? {
-        let text = text_after(alloc, text_of(texts, &of), &of, rows, writes)?;
+    let mut found = Vec::new(alloc);
+    for of in resources {
+        let keys = touching(alloc, &of, writes)?;
+        let text = text_after(alloc, text_of(texts, &of), &of, rows, writes, &keys)?;
         after.push((of, text))?;
+        found.push(keys)?;
     }
-    Ok(after)
+    Ok(TextsWithKeys {
+        texts: after,
+        keys: found,
+    })
 }
 
 /// The texts of the documents of the rows: one for each declared resource.
@@ -77,17 +98,19 @@ pub(crate) fn text_of<'a>(
     None
 }
 
-/// The text of a declared resource's document after a batch with these writes, which led to these rows: the same where
-/// they left the map.
+/// The text of a declared resource's document after a batch with these writes, of which these keys touch it, and which
+/// led to these rows: the same where they left the map.
 fn text_after<R: RowStore>(
     alloc: Global,
     text: Option<&Arc<Pieces>>,
     of: &Resource,
     rows: &R,
     writes: &[Write],
+    keys: &[Key],
 ) -> Result<Arc<Pieces>, AllocError>
     requires good { AreGood (R.rows rows.now) }
     requires declared { is_declared (R.rows rows.now) of.now ≡ true }
+    requires keys { keys.now ≡ spec_touching of.now writes.now }
     ensures { IfOk result (λ after. (before : Rows) → R.rows rows.now ≡ spec.after before writes.now
         → IfSome (option_map (λ text. arc_value text.now) text.entry) (IsTextOf before of.now)
         → arc_value after ≡ map_pieces (R.rows rows.now) of.now) }
@@ -98,7 +121,7 @@ fn text_after<R: RowStore>(
     if writes_epoch(writes) {
         return written(alloc, rows, of);
     }
-    text_at(alloc, text, of, rows, &touching(alloc, of, writes)?)
+    text_at(alloc, text, of, rows, keys)
 }
 
 /// The text of a resource's document at rows that differ by keys alone from those that this is the text at: the same

@@ -1,8 +1,8 @@
-use Rattle.std.proofs.Common.{◌≡◌, ◌++◌, true}
+use Rattle.std.proofs.Common.{◌≡◌, ◌++◌, map, true}
 use Rattle.std.specs.Arc.{arc_value}
 use Rattle.std.specs.List.{AllByRecursion}
 use Rattle.alto_rows.specs.Versions.{is_declared, resources_of}
-use Rattle.alto_versions.specs.Graphs.{entries}
+use Rattle.alto_versions.specs.Graphs.{AreTouching, entries}
 use Rattle.alto_versions.proofs.MatchLemmas.{matched}
 use Rattle.alto_versions.proofs.graphs.graphs_after.Given as goal
 
@@ -15,4 +15,5 @@ invariant-loop-of g l =
       declared : AllByRecursion (λ of. is_declared rows of ≡ true) left;
       whole : entries l.after.items ++ matched left (entries l.left) rows l.writes
           ≡ matched (resources_of rows) (entries l.graphs) rows l.writes;
+      keys : AreTouching l.writes (map (λ keys. keys.items) l.found.rest.items) left;
     }

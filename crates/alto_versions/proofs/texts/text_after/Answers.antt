@@ -12,5 +12,5 @@ returns g c =
     let own = rw c.in-Some.is at had in
     let differ = differ_written before rows c.args.writes.now c.args.of.now (arc_value c.in-Some.text.now) led
     c.requires.good c.requires.declared (sym c.writes_epoch.ensures ∙ c.if-writes_epoch.false) own in
-    is before (rw (c.deref.ensures.value, c.in_ok-touching.ensures) differ) own.whole)
+    is before (rw c.requires.keys differ) own.whole)
     c.text_at.ensures
