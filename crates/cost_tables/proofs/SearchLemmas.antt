@@ -92,6 +92,14 @@ module _ {X : Type 0} where
           rw (p.2, ← one) here
       by (inr p) = absurd (let past : length entries ≤ i = p.0 in omega arith)
 
+  -- and where an entry stands anywhere
+  pub lookup_at : (entries : List (Name × X)) (q : Name) (i : ℕ) (entry : Name × X)
+      → IsStrictlySortedBy name_cmp (keys_of entries) → slice_get entries i ≡ Some entry → entry.0 ≡ q
+      → lookup (is_at (name_cmp q)) entries ≡ Some entry.1
+  lookup_at entries q i entry s there same =
+      rw (← same) (lookup_from_place (eq_by_cmp_equiv nat_list_cmp_total) entries i entry.0 entry.1
+      (IsDistinct-from_sorted name_cmp (keys_of entries) s) there)
+
   -- where it misses, the look-up finds none
   miss : (entries : List (Name × X)) (q : Name) (i : ℕ) → IsStrictlySortedBy name_cmp (keys_of entries)
       → IsPartitionPoint (λ (entry : Name × X). name_cmp entry.0 q ≡ Less) (λ (entry : Name × X). name_cmp entry.0 q

@@ -12,6 +12,7 @@
 mod costs_to;
 mod destinations;
 mod from_source;
+mod heads;
 mod places;
 mod sources;
 mod table;

@@ -13,7 +13,7 @@ use Rattle.alto_rows.specs.Order.{name_cmp}
 use Rattle.cost_tables.specs.Lists.{HaveNumbers, Listed, Sources}
 use Rattle.cost_tables.specs.Tables.{Name}
 use Rattle.cost_tables.proofs.SearchLemmas.{found, lookup_from_search-map}
-use Rattle.cost_tables.proofs.table.Table.from.Goals as goal
+use Rattle.cost_tables.proofs.table.Table.search.Goals as goal
 
 -- where a search ends with no place, none is found
 none_found : (table : Sources) (r : Result ℕ ℕ) → result_ok r ≡ None → found table r ≡ None
