@@ -9,5 +9,4 @@ pub mod PairsLemmas
 pub mod TextLemmas
 pub mod PlainLemmas
 pub mod StartsLemmas
-pub mod ShownLemmas
-pub mod ToldLemmas
+pub mod BetweenLemmas

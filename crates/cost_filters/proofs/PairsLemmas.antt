@@ -4,8 +4,8 @@ use Rattle.std.proofs.Common.{get_or}
 use Rattle.std.proofs.lemmas.Bool.{or_right}
 use Rattle.std.proofs.lemmas.Bool.Decides.{nat_tests}
 use Rattle.std.specs.Prelude.{Bool, true, false, nat_eq, List, [], ◌∷◌, Option, Some, None, is_some, map, option_map}
-use Rattle.std.specs.Prelude.{slice_get, unwrap_or}
-use Rattle.std.specs.List.{list_any, range_with_len}
+use Rattle.std.specs.Prelude.{slice_get}
+use Rattle.std.specs.List.{range_with_len}
 use Rattle.alto_rows.specs.Rows.{Rows}
 use Rattle.alto_maps.specs.Shape.{Name}
 use Rattle.alto_rows.specs.Costs.{cost_of}
@@ -16,7 +16,7 @@ use Rattle.cost_filters.specs.declared.types.CostType.{CostType}
 use Rattle.cost_filters.specs.Columns.{column_cost, columns_of, scaled}
 use Rattle.cost_filters.specs.Filter.{costs_of, tested_costs}
 use Rattle.cost_filters.specs.Holds.{all_hold, one_holds}
-use Rattle.cost_filters.specs.Pairs.{PairsData, Table, cost_shown, costs_at, costs_shown, if_there, is_shown}
+use Rattle.cost_filters.specs.Pairs.{PairsData, Table, cost_shown, costs_at, if_there, is_shown}
 use Rattle.cost_filters.specs.Pairs.{one_is_empty, pair_costs, told_from, tested_from}
 use Rattle.cost_filters.proofs.FilterLemmas.{columns_tell}
 
@@ -30,7 +30,7 @@ at_place f (dst ∷ dsts) zero d within = refl
 at_place f (dst ∷ dsts) (suc at) d within = at_place f dsts at d (omega arith)
 
 -- costs that are told as they are
-pub all_numerical : (costs : List (Option ℕ)) → costs ≡ map (option_map (scaled scale.Numerical)) costs
+all_numerical : (costs : List (Option ℕ)) → costs ≡ map (option_map (scaled scale.Numerical)) costs
 all_numerical [] = refl
 all_numerical (None ∷ costs) = ap (λ (more : List (Option ℕ)). None ∷ more) (all_numerical costs)
 all_numerical (Some cost ∷ costs) = ap (λ (more : List (Option ℕ)). Some cost ∷ more) (all_numerical costs)
@@ -93,7 +93,7 @@ shown_there pairs src dsts told tested at d within costs tests = by (one_is_empt
     by false e = rw (costs, e, tests e) refl
 
 -- what is made at each place of a list
-each_place : {A : Type 0} (g : ℕ → A) (f : Name → A) (names : List Name) (start : ℕ)
+pub each_place : {A : Type 0} (g : ℕ → A) (f : Name → A) (names : List Name) (start : ℕ)
     → ((at : ℕ) (d : Name) → at < length names → g (start + at) ≡ f (get_or names at d))
     → map g (range_with_len start (length names)) ≡ map f names
 each_place g f [] start each = refl
@@ -104,36 +104,23 @@ each_place {A} g f (name ∷ names) start each =
     ap (λ (one : A). one ∷ map g (range_with_len (start + 1) (length names))) here
     ∙ ap (λ (rest : List A). f name ∷ rest) more
 
-zero_more : (at : ℕ) → 0 + at ≡ at
+pub zero_more : (at : ℕ) → 0 + at ≡ at
 zero_more at = omega arith
 
--- what is shown of each of so many places
-each_shown : (alternatives : List (List Constraint)) (told tested : Table) (start count : ℕ)
-    → costs_shown told start (map (is_shown alternatives told tested) (range_with_len start count))
-    ≡ map (shown_at alternatives told tested) (range_with_len start count)
-each_shown alternatives told tested start zero = refl
-each_shown alternatives told tested start (suc count) =
-    ap (λ (more : List (Option (List (Option ℕ)))). shown_at alternatives told tested start ∷ more)
-    (each_shown alternatives told tested (start + 1) count)
-
--- the pairs at all places are those of the destinations
-pub all_pairs : (pairs : PairsData) (src : Name) (dsts : List Name) (columns : List Column) (told tested : Table)
+-- the costs at a place, where they are shown, are the pair of the destination there
+pub pair_at : (pairs : PairsData) (src : Name) (dsts : List Name) (columns : List Column) (told tested : Table)
     → columns ≡ columns_of pairs.rows pairs.net pairs.types
     → told ≡ told_from pairs.rows pairs.net columns src dsts
-    → (one_is_empty pairs.alternatives ≡ false → tested ≡ tested_from pairs.rows pairs.net pairs.tested src dsts)
-    → costs_shown told 0 (map (is_shown pairs.alternatives told tested) (range_with_len 0 (length dsts)))
-    ≡ map (pair_costs pairs src) dsts
-all_pairs pairs src dsts columns told tested made costs tests =
-    each_shown pairs.alternatives told tested 0 (length dsts)
-    ∙ each_place (shown_at pairs.alternatives told tested) (pair_costs pairs src) dsts 0
-    (λ at d within.
-    ap (shown_at pairs.alternatives told tested) (zero_more at)
-    ∙ shown_there pairs src dsts told tested at d within
+    → tested ≡ tested_from pairs.rows pairs.net pairs.tested src dsts
+    → (at : ℕ) (d : Name) → at < length dsts
+    → shown_at pairs.alternatives told tested at ≡ pair_costs pairs src (get_or dsts at d)
+pair_at pairs src dsts columns told tested made costs tests at d within =
+    shown_there pairs src dsts told tested at d within
     (ap (costs_at at) costs
     ∙ (told_at pairs.rows pairs.net src columns dsts at d within
     ∙ (ap (map (column_cost pairs.rows pairs.net src (get_or dsts at d))) made
     ∙ columns_tell pairs.rows pairs.net src (get_or dsts at d) pairs.types)))
-    (λ none. ap (costs_at at) (tests none) ∙ tested_at pairs.rows pairs.net src pairs.tested dsts at d within))
+    (λ none. ap (costs_at at) tests ∙ tested_at pairs.rows pairs.net src pairs.tested dsts at d within)
 
 -- ---- steps of loops
 
@@ -147,30 +134,7 @@ place_more {A} g before all at count one within is whole =
     ∙ (ap (λ (x : A). before ++ x ∷ map g (range_with_len (at + 1) (count - (at + 1)))) is
     ∙ (ap (λ n. before ++ map g (range_with_len at n)) (sym step) ∙ whole))
 
--- ---- what was found
-
--- there is a pair where a place is shown
-pub any_shown : (told : Table) (at : ℕ) (shown : List Bool)
-    → list_any (λ flag. flag) shown ≡ list_any (λ pair. is_some pair) (costs_shown told at shown)
-any_shown told at [] = refl
-any_shown told at (true ∷ shown) = refl
-any_shown told at (false ∷ shown) = any_shown told (at + 1) shown
-
--- what is found at a place
-at_flag : (told : Table) (start : ℕ) (shown : List Bool) (at : ℕ)
-    → if_there (slice_get (costs_shown told start shown) at)
-    ≡ cost_shown told (start + at) (unwrap_or (slice_get shown at) false)
-at_flag told start [] at = refl
-at_flag told start (flag ∷ shown) zero = let here : start ≡ start + 0 = omega arith in
-    ap (λ n. cost_shown told n flag) here
-at_flag told start (flag ∷ shown) (suc at) =
-    let later : (start + 1) + at ≡ start + suc at = omega arith in
-    at_flag told (start + 1) shown at ∙ ap (λ n. cost_shown told n (unwrap_or (slice_get shown at) false)) later
-
-pub found_there : (told : Table) (shown : List Bool) (at : ℕ)
-    → if_there (slice_get (costs_shown told 0 shown) at) ≡ cost_shown told at (unwrap_or (slice_get shown at) false)
-found_there told shown at = at_flag told 0 shown at
-    ∙ ap (λ n. cost_shown told n (unwrap_or (slice_get shown at) false)) (zero_more at)
+-- ---- what is shown
 
 pub is_found : (told : Table) (at : ℕ) (flag : Bool) → flag ≡ is_some (cost_shown told at flag)
 is_found told at true = refl

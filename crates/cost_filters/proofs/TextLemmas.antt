@@ -272,6 +272,11 @@ pub member_put : (name : Name) (value : Data) (later : Bool) (old comma named ne
 member_put name value later old comma named new a b c =
     record { text = rw (c, b, a) (simp append_assoc refl); behind = sym (or_true later) }
 
+-- what is no pair has no value
+pub no_pair : {A B : Type 0} (f : A → B) (found : Option A) → is_some found ≡ false → option_map f found ≡ None
+no_pair f None none = refl
+no_pair f (Some x) none = cc
+
 -- where there is no value nothing is put
 pub none_put : (name : Name) (later : Bool) (old : List ℕ) → PutsIfAny name None later old later old
 none_put name later old = record { text = sym (append-nil old); behind = sym (or_false later) }

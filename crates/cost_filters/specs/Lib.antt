@@ -6,8 +6,7 @@ pub mod Holds
 pub mod Filter
 pub mod Columns
 pub mod Pairs
-pub mod Found
-pub mod PairsTo
+pub mod Between
 pub mod Names
 pub mod Starts
 pub mod Text

@@ -1,5 +1,5 @@
 -- The pairs that cost types and constraints make, source by source.
-use Rattle.std.specs.Prelude.{ℕ, ◌+◌, nat_eq, List, [], ◌∷◌, Bool, ◌&&◌, ◌||◌, Option, Some, None, is_some, length, map}
+use Rattle.std.specs.Prelude.{ℕ, nat_eq, List, Bool, ◌&&◌, ◌||◌, Option, Some, None, is_some, length, map}
 use Rattle.std.specs.Prelude.{option_map, slice_get, if◌then◌else◌}
 use Rattle.std.specs.List.{list_any}
 use Rattle.serde_json.specs.Data.{Data}
@@ -90,8 +90,3 @@ is_shown alternatives told tested at =
 -- the costs at a place, where they are shown
 abbrev pub cost_shown : Table → ℕ → Bool → Option (List (Option ℕ))
 cost_shown told at shown = if shown then Some (costs_at at told) else None
-
--- those at the places from one on
-abbrev pub costs_shown : Table → ℕ → List Bool → List (Option (List (Option ℕ)))
-costs_shown told at [] = []
-costs_shown told at (shown ∷ more) = cost_shown told at shown ∷ costs_shown told (at + 1) more

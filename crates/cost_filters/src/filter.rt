@@ -11,6 +11,7 @@ ghost use Rattle.cost_tables.specs.Tables.{AreCostsOf};
 ghost use Rattle.alto_maps.specs.Shape.{section_object};
 ghost use Rattle.alto_maps.specs.Writing.{AddsMember, AddsMembers};
 ghost use Rattle.net_docs.specs.NetworkMap.{dependent_tags};
+ghost use Rattle.cost_filters.specs.Between.{pairs_at};
 ghost use Rattle.cost_filters.specs.Columns.{valued};
 ghost use Rattle.cost_filters.specs.Filter.{filtered_costs, filtered_face, filtered_meta};
 ghost use Rattle.cost_filters.specs.Filter.{types_data, types_name};
@@ -20,9 +21,9 @@ ghost use Rattle.cost_filters.specs.Text.{PutsIfAny, group_made, found_object, s
 
 use crate::ask::CostAsk;
 use crate::destinations::Destinations;
-use crate::found::Found;
 use crate::names::{names_given, srcs_of};
 use crate::pairs::Pairs;
+use crate::pairs_between::PairsBetween;
 use crate::text::{push_comma, push_name};
 use crate::types::CostType;
 use crate::writing::write_types;
@@ -32,6 +33,7 @@ use cost_tables::CostTables;
 use json::Writer;
 use net_docs::write_dependent_tags;
 use std::alloc::{AllocError, Global};
+use std::slice;
 
 /// Room for a text, which those of most asks don't outgrow.
 const FIRST_ROOM: usize = 8192;
@@ -164,14 +166,10 @@ fn push_given<R: RowStore>(
         (valued (group_made multi (Some names.items) pairs.now) srcs.now))) }
 {
     let dsts = Destinations::none(alloc).renewed(names)?;
-    let mut to = pairs.to(alloc, dsts.names())?;
-    let mut room = Found::none(alloc);
+    let between = pairs.between(alloc, srcs, dsts.names())?;
     let mut later = false;
-    for src in srcs {
-        let (again, found) = to.from(alloc, src, room)?;
-        later = push_found(multi, src, &dsts, &found, later, out)?;
-        to = again;
-        room = found;
+    for (at, src) in srcs.iter().enumerate() {
+        later = push_found(multi, src, at, &dsts, &between, later, out)?;
     }
     out.push(b'}')?;
     Ok(())
@@ -190,70 +188,74 @@ fn push_reached<R: RowStore>(
         (valued (group_made multi None pairs.now) srcs.now))) }
 {
     let mut dsts = Destinations::none(alloc);
-    let mut room = Found::none(alloc);
     let mut later = false;
     for src in srcs {
         dsts = dsts.renewed(pairs.reached(alloc, src)?)?;
-        let found = found_from(alloc, pairs, src, &dsts, room)?;
-        later = push_found(multi, src, &dsts, &found, later, out)?;
-        room = found;
+        later = push_source(alloc, pairs, multi, src, &dsts, later, out)?;
     }
     out.push(b'}')?;
     Ok(())
 }
 
-/// The pairs of one source with destinations, in the memory of pairs that aren't needed any more.
-fn found_from<R: RowStore>(
+/// Puts the pairs of one source with destinations as a member with its name, if it has any. Tells whether a member
+/// stands before the next.
+fn push_source<R: RowStore>(
     alloc: Global,
     pairs: &Pairs<R>,
-    src: &PidName,
-    dsts: &Destinations,
-    room: Found,
-) -> Result<Found, AllocError>
-    ensures { IfOk result (λ found. found ≡ map (pair_costs pairs.now src.now) dsts.now) }
-{
-    let to = pairs.to(alloc, dsts.names())?;
-    let (again, found) = to.from(alloc, src, room)?;
-    drop(again);
-    Ok(found)
-}
-
-/// Puts what was found of destinations as a member with the name of their source, if it is anything. Tells whether a
-/// member stands before the next.
-fn push_found(
     multi: bool,
     src: &PidName,
     dsts: &Destinations,
-    found: &Found,
     later: bool,
     out: &mut Vec<u8>,
 ) -> Result<bool, AllocError>
-    ensures { IfOk result (λ after. PutsIfAny src.now (found_object multi dsts.now found.now)
+    ensures { IfOk result (λ after. PutsIfAny src.now
+        (found_object multi dsts.now (map (pair_costs pairs.now src.now) dsts.now))
         later out.old.items after out.new.items) }
 {
-    if !found.has_pair() {
+    let between = pairs.between(alloc, slice::from_ref(src), dsts.names())?;
+    let after = push_found(multi, src, 0, dsts, &between, later, out);
+    drop(between);
+    after
+}
+
+/// Puts the pairs of the source at a place as a member with its name, if it has any. Tells whether a member stands
+/// before the next.
+fn push_found(
+    multi: bool,
+    src: &PidName,
+    at: usize,
+    dsts: &Destinations,
+    pairs: &PairsBetween,
+    later: bool,
+    out: &mut Vec<u8>,
+) -> Result<bool, AllocError>
+    ensures { IfOk result (λ after. PutsIfAny src.now (found_object multi dsts.now (pairs_at pairs.now at))
+        later out.old.items after out.new.items) }
+{
+    if !pairs.has_pair(at) {
         return Ok(later);
     }
     push_comma(later, out)?;
     push_name(src.as_str(), out)?;
     out.push(b'{')?;
-    push_members(multi, dsts, found, out)?;
+    push_members(multi, at, dsts, pairs, out)?;
     Ok(true)
 }
 
-/// Puts each of the destinations of which something was found, with the brace behind them.
+/// Puts each of the destinations with which the source at a place has a pair, with the brace behind them.
 fn push_members(
     multi: bool,
+    src: usize,
     dsts: &Destinations,
-    found: &Found,
+    pairs: &PairsBetween,
     out: &mut Vec<u8>,
 ) -> Result<(), AllocError>
     ensures { OnOk result (out.new.items ≡ out.old.items ++ members_text false
-        (members_in_order (shown_members multi dsts.now found.now))) }
+        (members_in_order (shown_members multi dsts.now (pairs_at pairs.now src)))) }
 {
     let mut later = false;
     for at in 0..dsts.count() {
-        later = found.push_pair(multi, dsts.start(at), at, later, out)?;
+        later = pairs.push_pair(multi, dsts.start(at), src, at, later, out)?;
     }
     out.push(b'}')?;
     Ok(())

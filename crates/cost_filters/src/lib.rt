@@ -10,19 +10,17 @@
 #![tactic(auto)]
 
 mod ask;
-mod column_to;
+mod column_between;
 mod columns;
 mod constraints;
 mod destinations;
 mod fields;
 mod filter;
-mod found;
 mod names;
 mod pairs;
-mod pairs_to;
+mod pairs_between;
 mod picks;
 mod starts;
-mod table;
 mod text;
 mod types;
 mod writing;
@@ -31,10 +29,9 @@ pub use ask::{CostAsk, read_cost_ask};
 pub use constraints::{Tests, read_constraints};
 pub use fields::{items_at, nested, object_in};
 pub use filter::filter_cost_text;
-pub use found::Found;
 pub use names::distinct;
 pub use pairs::Pairs;
-pub use pairs_to::PairsTo;
+pub use pairs_between::PairsBetween;
 pub use starts::MemberStarts;
 pub use text::{push_comma, push_name};
 pub use types::{AskedTypes, CostType, read_types};

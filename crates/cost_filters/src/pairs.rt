@@ -1,19 +1,15 @@
-//! The pairs that cost types and constraints make, source by source.
-ghost use Rattle.std.specs.Prelude.{◌≡◌, false, IfOk, map};
-ghost use Rattle.std.specs.List.{range_with_len};
+//! The pairs that cost types and constraints make.
+ghost use Rattle.std.specs.Prelude.{◌≡◌, IfOk, length, map};
 ghost use Rattle.alto_rows.specs.Good.{AreGood};
 ghost use Rattle.cost_tables.specs.Tables.{AreCostsOf, IsSetOf};
+ghost use Rattle.cost_filters.specs.Between.{AreShown, columns_at, flags_between, flags_from, tested_between};
 ghost use Rattle.cost_filters.specs.Columns.{columns_of, reached};
-ghost use Rattle.cost_filters.specs.Found.{flags_of};
 ghost use Rattle.cost_filters.specs.Holds.{one_holds};
-ghost use Rattle.cost_filters.specs.Pairs.{is_shown, one_is_empty};
-ghost use Rattle.cost_filters.specs.PairsTo.{TellPairs, tested_to};
+ghost use Rattle.cost_filters.specs.Pairs.{is_shown, one_is_empty, pair_costs};
 
-use crate::column_to::{ColumnTo, tested_to, told_to};
+use crate::column_between::{ColumnBetween, costs_at, has_cost, tested_between, told_between};
 use crate::columns::{Column, columns_of, reached_once};
-use crate::found::Shown;
-use crate::pairs_to::PairsTo;
-use crate::table::Table;
+use crate::pairs_between::{PairsBetween, Shown};
 use crate::types::CostType;
 use alto_names::{NetName, PidName};
 use alto_rows::RowStore;
@@ -99,143 +95,112 @@ impl<'a, R: RowStore> Pairs<'a, R> {
         reached_once(alloc, self.rows, self.net, &self.columns, src)
     }
 
-    /// The pairs of sources with these destinations. For each type that is asked for or tested one pass over the
-    /// metrics. Where no constraint tests a pair, no tested type costs anything.
-    pub fn to<'b>(
-        &'b self,
+    /// The pairs between sources and destinations. For each type that is asked for or tested one pass over the metrics,
+    /// and one binary search for each source. Where the destinations stand is found once for all sources in a row that
+    /// have the same. Where no constraint tests a pair, no tested type costs anything.
+    pub fn between(
+        &self,
         alloc: Global,
-        dsts: &'b [PidName],
-    ) -> Result<PairsTo<'b, 'a, R>, AllocError>
-        ensures { IfOk result (λ to. to ≡ record { pairs = self.now; destinations = dsts.now }) }
+        srcs: &[PidName],
+        dsts: &[PidName],
+    ) -> Result<PairsBetween<'_>, AllocError>
+        ensures { IfOk result (λ pairs. pairs ≡ map (λ src. map (pair_costs self.now src) dsts.now) srcs.now) }
     {
-        let (told, tested) = self.columns_to(alloc, dsts)?;
-        Ok(PairsTo::asking(self, dsts, told, tested))
-    }
-
-    /// The columns that tell the costs to destinations, and those that constraints test; none of these where one of the
-    /// lists has no constraint.
-    fn columns_to<'b>(
-        &'b self,
-        alloc: Global,
-        dsts: &'b [PidName],
-    ) -> Result<(Vec<ColumnTo<'b>>, Vec<ColumnTo<'b>>), AllocError>
-        ensures { IfOk result (λ columns. TellPairs self.now dsts.now columns.0.items columns.1.items) }
-    {
-        let told = told_to(alloc, self.tables, self.net, &self.columns, dsts)?;
-        let tested = tested_if_any(
+        let told = told_between(alloc, self.tables, self.net, &self.columns, srcs, dsts)?;
+        let shown = shown_between(
             alloc,
             self.tables,
             self.net,
             self.tested,
             self.alternatives,
+            &told,
+            srcs,
             dsts,
         )?;
-        Ok((told, tested))
-    }
-
-    /// Which of so many places of the costs make a pair, in the memory of what isn't needed any more.
-    pub(crate) fn shown(
-        &self,
-        alloc: Global,
-        told: &Table,
-        tested: &Table,
-        count: usize,
-        room: Shown,
-    ) -> Result<Shown, AllocError>
-        ensures { IfOk result (λ shown. flags_of told.now shown
-            ≡ map (is_shown self.now.alternatives told.now tested.now) (range_with_len 0 count)) }
-    {
-        all_shown(alloc, self.alternatives, told, tested, count, room)
+        Ok(PairsBetween::new(told, shown, srcs.len(), dsts.len()))
     }
 }
 
-/// The columns that constraints test; none of them where one of the lists has no constraint.
-fn tested_if_any<'a>(
+/// Which of the costs between sources and destinations make a pair. Where no constraint tests a pair, no cost is looked
+/// at.
+fn shown_between(
     alloc: Global,
-    tables: &'a CostTables,
+    tables: &CostTables,
     net: &NetName,
     types: &[CostType],
     alternatives: &[Vec<Constraint>],
-    dsts: &'a [PidName],
-) -> Result<Vec<ColumnTo<'a>>, AllocError>
-    ensures { IfOk result (λ tested. one_is_empty (map (λ constraints. constraints.items) alternatives.now) ≡ false
-        → tested.items ≡ tested_to tables.now net.now types.now dsts.now) }
-{
-    if one_is_empty(alternatives) {
-        return Ok(Vec::new(alloc));
-    }
-    tested_to(alloc, tables, net, types, dsts)
-}
-
-/// Which of so many places of the costs make a pair, in the memory of what isn't needed any more. Where no constraint
-/// tests a pair, no place is looked at.
-fn all_shown(
-    alloc: Global,
-    alternatives: &[Vec<Constraint>],
-    told: &Table,
-    tested: &Table,
-    count: usize,
-    room: Shown,
+    told: &[ColumnBetween],
+    srcs: &[PidName],
+    dsts: &[PidName],
 ) -> Result<Shown, AllocError>
-    ensures { IfOk result (λ shown. flags_of told.now shown
-        ≡ map (is_shown (map (λ constraints. constraints.items) alternatives.now) told.now tested.now)
-        (range_with_len 0 count)) }
+    ensures { IfOk result (AreShown (map (λ constraints. constraints.items) alternatives.now) told.now
+        (tested_between tables.now net.now types.now srcs.now dsts.now) (length srcs.now) (length dsts.now)) }
 {
     if one_is_empty(alternatives) {
-        return Ok(Shown::WithCost(count));
+        return Ok(Shown::WithCost);
     }
-    let flags = flags_in(alloc, room);
-    Ok(Shown::Told(all_tested(alloc, alternatives, told, tested, count, flags)?))
+    let tested = tested_between(alloc, tables, net, types, srcs, dsts)?;
+    let flags = all_tested(alloc, alternatives, told, &tested, srcs.len(), dsts.len())?;
+    Ok(Shown::Flagged(flags))
 }
 
-/// The memory of flags that aren't needed any more.
-fn flags_in(alloc: Global, room: Shown) -> Vec<bool> {
-    match room {
-        Shown::Told(flags) => flags,
-        Shown::WithCost(_) => Vec::new(alloc),
-    }
-}
-
-/// Whether each of so many places of the costs makes a pair, in the memory of flags that aren't needed any more.
+/// Which of the costs between so many sources and destinations make a pair, by source.
 fn all_tested(
     alloc: Global,
     alternatives: &[Vec<Constraint>],
-    told: &Table,
-    tested: &Table,
-    count: usize,
-    room: Vec<bool>,
-) -> Result<Vec<bool>, AllocError>
-    ensures { IfOk result (λ shown. shown.items
-        ≡ map (is_shown (map (λ constraints. constraints.items) alternatives.now) told.now tested.now)
-        (range_with_len 0 count)) }
+    told: &[ColumnBetween],
+    tested: &[ColumnBetween],
+    srcs: usize,
+    dsts: usize,
+) -> Result<Vec<Vec<bool>>, AllocError>
+    ensures { IfOk result (λ flags. map (λ row. row.items) flags.items
+        ≡ flags_between (map (λ constraints. constraints.items) alternatives.now) told.now tested.now srcs dsts) }
 {
-    let mut shown = room;
-    shown.clear();
-    shown.reserve(count)?;
-    for at in 0..count {
-        shown.push(is_shown(alloc, alternatives, told, tested, at)?)?;
+    let mut flags = Vec::with_capacity(alloc, srcs)?;
+    for src in 0..srcs {
+        flags.push(tested_from(alloc, alternatives, told, tested, src, dsts)?)?;
     }
-    Ok(shown)
+    Ok(flags)
 }
 
-/// Whether the costs at a place make a pair.
+/// Those of one source.
+fn tested_from(
+    alloc: Global,
+    alternatives: &[Vec<Constraint>],
+    told: &[ColumnBetween],
+    tested: &[ColumnBetween],
+    src: usize,
+    dsts: usize,
+) -> Result<Vec<bool>, AllocError>
+    ensures { IfOk result (λ flags. flags.items
+        ≡ flags_from (map (λ constraints. constraints.items) alternatives.now) told.now tested.now dsts src) }
+{
+    let mut flags = Vec::with_capacity(alloc, dsts)?;
+    for dst in 0..dsts {
+        flags.push(is_shown(alloc, alternatives, told, tested, src, dst)?)?;
+    }
+    Ok(flags)
+}
+
+/// Whether the costs between a source and a destination make a pair.
 fn is_shown(
     alloc: Global,
     alternatives: &[Vec<Constraint>],
-    told: &Table,
-    tested: &Table,
-    at: usize,
+    told: &[ColumnBetween],
+    tested: &[ColumnBetween],
+    src: usize,
+    dst: usize,
 ) -> Result<bool, AllocError>
-    ensures { IfOk result (λ shown. shown
-        ≡ is_shown (map (λ constraints. constraints.items) alternatives.now) told.now tested.now at) }
+    ensures { IfOk result (λ shown. shown ≡ is_shown (map (λ constraints. constraints.items) alternatives.now)
+        (columns_at src told.now) (columns_at src tested.now) dst) }
 {
-    if !told.has_cost(at) {
+    if !has_cost(told, src, dst) {
         return Ok(false);
     }
     if one_is_empty(alternatives) {
         return Ok(true);
     }
-    let costs = tested.costs_at(alloc, at)?;
+    let costs = costs_at(alloc, tested, src, dst)?;
     Ok(one_holds(alternatives, &costs))
 }
 

@@ -1,4 +1,3 @@
 pub mod Tables
-pub mod CostsTo
 pub mod Lists
 pub mod Renewed

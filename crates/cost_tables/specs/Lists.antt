@@ -53,3 +53,12 @@ abbrev pub ArePlacesIn : Sources → Option ℕ → List Name → List ℕ → T
 ArePlacesIn sources number destinations places =
     AllByRecursion (λ source. number ≡ Some source.1.list.number → ArePlaces source.1.list.names destinations places)
     sources
+
+-- where destinations stand in a list, and the number of that list, once there is one
+pub record Placed : Type 0 where
+  pub number : Option ℕ
+  pub places : List ℕ
+
+-- the places are right in each list with the number
+abbrev pub ArePlacesFor : Sources → List Name → Placed → Type 0
+ArePlacesFor sources destinations placed = ArePlacesIn sources placed.number destinations placed.places

@@ -1,6 +1,6 @@
 -- The costs of rows as tables tell them: by network and metric, then by source, then by destination.
 use Rattle.std.specs.Prelude.{◌≡◌, ℕ, Bool, ◌&&◌, List, [], Option, Some, None, option_and_then, if◌then◌else◌}
-use Rattle.std.specs.Prelude.{unwrap_or}
+use Rattle.std.specs.Prelude.{map, unwrap_or}
 use Rattle.std.specs.BTreeMap.{is_at}
 use Rattle.std.specs.List.{filter_map, list_any}
 use Rattle.std.specs.List.Sorted.{IsStrictlySortedBy}
@@ -37,6 +37,10 @@ cost_to costs dst = lookup (is_at (name_cmp dst)) costs
 -- the cost of a pair in a table
 abbrev pub cost_told : Table → Name → Name → Option ℕ
 cost_told table src dst = option_and_then (λ costs. cost_to costs dst) (lookup (is_at (name_cmp src)) table)
+
+-- the costs of pairs in a table, by source
+abbrev pub costs_between : Table → List Name → List Name → List (List (Option ℕ))
+costs_between table srcs dsts = map (λ src. map (cost_told table src) dsts) srcs
 
 -- a network and a metric are these
 abbrev pub is_of : Name → Name → Name × Name → Bool

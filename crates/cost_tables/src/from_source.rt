@@ -106,39 +106,13 @@ impl FromSource {
         self.list.find(destinations, places)
     }
 
-    /// Puts the costs at places at the end, one for each.
-    pub(crate) fn push_at(
-        &self,
-        places: &[usize],
-        costs: &mut Vec<Option<u64>>,
-    ) -> Result<(), AllocError>
-        ensures { OnOk result ((destinations : List Name)
-            → ArePlaces self.now.1.list.names destinations places.now
-            → costs.new.items ≡ costs.old.items ++ map (cost_to self.now.1.costs) destinations) }
+    /// The costs, by destination in the order of the list.
+    pub(crate) fn costs(&self) -> &[u64]
+        ensures costs { zip self.now.1.list.names result.now ≡ self.now.1.costs }
+        ensures even { length result.now ≡ length self.now.1.list.names }
     {
-        push_numbers(&self.costs, places, costs)
+        &self.costs
     }
-}
-
-/// Puts the numbers at places at the end, one for each, `None` where there is none. No read waits for another.
-fn push_numbers(
-    numbers: &[u64],
-    places: &[usize],
-    out: &mut Vec<Option<u64>>,
-) -> Result<(), AllocError>
-    ensures { OnOk result (out.new.items ≡ out.old.items ++ map (slice_get numbers.now) places.now) }
-{
-    for place in places {
-        out.push(number_at(numbers, *place))?;
-    }
-    Ok(())
-}
-
-/// The number at a place, if there is one.
-fn number_at(numbers: &[u64], place: usize) -> Option<u64>
-    ensures { result ≡ slice_get numbers.now place }
-{
-    Some(*numbers.get(place)?)
 }
 
 /// The list of the destinations of the costs from a source that rows give, and the costs. The list is that of another

@@ -4,12 +4,12 @@
 //! ```text
 //! rows ── CostTables::of ──▶ CostTables ── after(rows, writes) ──▶ the next ones: of each metric the costs from all
 //!                                                                   sources that the writes left are shared
-//! CostTables ── costs_to(net, metric, destinations) ──▶ CostsTo ── push_from(source) ──▶ a cost for each destination,
-//!                                                                                        if it has one
+//! CostTables ── costs_between(net, metric, sources, destinations) ──▶ by source a cost for each destination, if it has
+//!                                                                    one
 //! ```
 #![tactic(auto)]
 
-mod costs_to;
+mod costs_between;
 mod destinations;
 mod from_source;
 mod heads;
@@ -18,5 +18,4 @@ mod sources;
 mod table;
 mod tables;
 
-pub use costs_to::CostsTo;
 pub use tables::CostTables;

@@ -1,18 +1,28 @@
 //! Where destinations stand in a list of destinations.
 ghost use Rattle.std.specs.Prelude.{◌≡◌, Bool, None, OnOk, Some};
 ghost use Rattle.std.specs.Map.{lookup};
-ghost use Rattle.cost_tables.specs.Lists.{ArePlacesIn, HaveNumbers, Sources};
+ghost use Rattle.cost_tables.specs.Lists.{ArePlacesFor, HaveNumbers, Sources};
 ghost use Rattle.cost_tables.specs.Tables.{Name};
 
 use crate::from_source::FromSource;
 use alto_names::PidName;
 use std::alloc::{AllocError, Global};
+use std::marker::Model;
 
-/// Where each of some destinations stands in a list, and the number of that list, once there is one.
+/// Where each of some destinations stands in a list, and the number of that list, once there is one. A contract sees
+/// both.
 #[derive(Drop)]
 pub(crate) struct Places {
-    pub(crate) number: Option<u64>,
-    pub(crate) places: Vec<usize>,
+    number: Option<u64>,
+    places: Vec<usize>,
+}
+
+impl Model for Places {
+    ghost use Rattle.cost_tables.specs.Lists.{Placed};
+
+    ghost Value = { Placed };
+
+    ghost view = { λ places. record { number = places.number; places = places.places.items } };
 }
 
 impl Places {
@@ -26,6 +36,13 @@ impl Places {
         }
     }
 
+    /// The places.
+    pub(crate) fn places(&self) -> &[usize]
+        ensures { result.now ≡ self.now.places }
+    {
+        &self.places
+    }
+
     /// Finds those in the list of a source, where they are of a list with another number.
     pub(crate) fn find(
         &mut self,
@@ -35,8 +52,7 @@ impl Places {
         ensures found { OnOk result (self.new.number ≡ Some from.now.1.list.number) }
         ensures right { (sources : Sources) (test : Name → Bool) → HaveNumbers sources
             → lookup test sources ≡ Some from.now.1
-            → ArePlacesIn sources self.old.number destinations.now self.old.places.items
-            → ArePlacesIn sources self.new.number destinations.now self.new.places.items }
+            → ArePlacesFor sources destinations.now self.old → ArePlacesFor sources destinations.now self.new }
     {
         let number = from.number();
         if self.number == Some(number) {

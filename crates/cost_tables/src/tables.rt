@@ -1,5 +1,5 @@
 //! The costs of all metrics.
-ghost use Rattle.std.specs.Prelude.{◌≡◌, IfOk, option_map};
+ghost use Rattle.std.specs.Prelude.{◌≡◌, IfOk, map, option_map};
 ghost use Rattle.std.specs.Arc.{arc_value};
 ghost use Rattle.std.specs.Map.{lookup};
 ghost use Rattle.alto_rows.specs.Good.{AreGood};
@@ -7,9 +7,9 @@ ghost use Rattle.alto_rows.specs.Rows.{AreSorted, Rows};
 ghost use Rattle.alto_rows.specs.Rows as spec;
 ghost use Rattle.alto_rows.specs.Versions.{resources_of};
 ghost use Rattle.cost_tables.specs.Lists.{table_of};
-ghost use Rattle.cost_tables.specs.Tables.{AreCostsOf, TellsCosts, costs_of, is_of};
+ghost use Rattle.cost_tables.specs.Tables.{AreCostsOf, TellsCosts, costs_between, costs_of, is_of};
 
-use crate::costs_to::CostsTo;
+use crate::costs_between::costs_between;
 use crate::table::Table;
 use alto_names::{Metric, NetName, PidName};
 use alto_rows::{Resource, RowStore, Write};
@@ -98,20 +98,23 @@ impl CostTables {
         Ok(CostTables { tables })
     }
 
-    /// The costs in a metric of a network to destinations. One pass over the metrics. Takes no memory.
-    pub fn costs_to<'a>(
-        &'a self,
+    /// The costs in a metric of a network from sources to destinations, by source. One pass over the metrics, and one
+    /// binary search for each source. Where the destinations stand is found once for all sources in a row that have the
+    /// same, by one comparison of two names for each that follows the one before there too, else by one binary search.
+    pub fn costs_between(
+        &self,
         alloc: Global,
         net: &NetName,
         metric: &Metric,
-        destinations: &'a [PidName],
-    ) -> CostsTo<'a>
-        ensures table { result.table ≡ costs_of self.now net.now metric.now }
-        ensures destinations { result.destinations ≡ destinations.now }
+        sources: &[PidName],
+        destinations: &[PidName],
+    ) -> Result<Vec<Vec<Option<u64>>>, AllocError>
+        ensures { IfOk result (λ costs. map (λ row. row.items) costs.items
+            ≡ costs_between (costs_of self.now net.now metric.now) sources.now destinations.now) }
     {
         match self.table(net, metric) {
-            Some(table) => CostsTo::new(alloc, Some(&**table), destinations),
-            None => CostsTo::new(alloc, None, destinations),
+            Some(table) => costs_between(alloc, Some(&**table), sources, destinations),
+            None => costs_between(alloc, None, sources, destinations),
         }
     }
 

@@ -71,11 +71,10 @@ fn compared(alloc: Global, desk: &MemDesk) -> Result<String, Fail> {
     let mut count: u32 = 0;
     for word in ["hopcount", "latency", "routingcost"] {
         let metric = Metric::read(alloc, word.as_bytes())?;
-        let mut told = front.costs().costs_to(alloc, &net, &metric, &pids);
-        let mut costs = Vec::new(alloc);
-        for source in &pids {
-            costs.clear();
-            told.push_from(source, &mut costs)?;
+        let told = front
+            .costs()
+            .costs_between(alloc, &net, &metric, &pids, &pids)?;
+        for (costs, source) in told.iter().zip(&pids) {
             for (cost, destination) in costs.iter().zip(&pids) {
                 let (src, dst) = (source.clone()?, destination.clone()?);
                 let key = Key::Cost(net.clone()?, metric.clone()?, src, dst);

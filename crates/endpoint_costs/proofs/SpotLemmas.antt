@@ -2,7 +2,7 @@
 use Rattle.std.proofs.Common.{◌≡◌, ◌∙◌, ℕ, refl, ap, sym, subst}
 use Rattle.std.proofs.lemmas.Bool.{or_left, or_right}
 use Rattle.std.specs.Prelude.{Bool, true, false, cond, ◌||◌, List, [], ◌∷◌, Option, Some, None, is_some, fold, map}
-use Rattle.std.specs.Prelude.{option_map, slice_get}
+use Rattle.std.specs.Prelude.{option_map, slice_get, unwrap_or}
 use Rattle.std.specs.BTreeMap.{insert_entry}
 use Rattle.std.specs.Cmp.Lexicographic.{slice_cmp}
 use Rattle.std.specs.List.{AllByRecursion, cons_option, filter_map, list_any}
@@ -22,6 +22,7 @@ use Rattle.pid_prefix.specs.Longest.{Row, longest_prefix}
 use Rattle.cost_filters.specs.Columns.{has_member, object_if_any, pair_value, valued}
 use Rattle.cost_filters.specs.Filter.{costs_data}
 use Rattle.cost_tables.specs.Tables.{IsSetOf}
+use Rattle.cost_filters.specs.Between.{pairs_at}
 use Rattle.cost_filters.specs.Pairs.{PairsData, if_there, pair_costs, pairs_of}
 use Rattle.cost_filters.proofs.TextLemmas.{listed_valued, pair_is, set_is, set_members, set_object}
 use Rattle.endpoint_costs.specs.declared.endpoint.Endpoint.{Endpoint}
@@ -318,6 +319,21 @@ groups_placed multi dsts costs pids [] among = refl
 groups_placed multi dsts costs pids (entry ∷ entries) among =
     λ i. cons_option (named entry.0 (group_data multi (spots dsts) (placed costs pids entry.1 among.0 i)))
     (groups_placed multi dsts costs pids entries among.1 i)
+
+-- a source with no pairs has none with any destination
+no_pairs : (dsts : List Spot) → has_pair [] dsts ≡ false
+no_pairs [] = refl
+no_pairs (dst ∷ dsts) = no_pairs dsts
+
+-- the object of the source at a place
+pub group_there : (multi : Bool) (dsts : List Spot) (found : List Costs) (at : ℕ)
+    → group_data multi dsts (slice_get found at) ≡ costs_object multi dsts (pairs_at found at)
+group_there multi dsts found at = by (slice_get found at)
+  where
+    by : (row : Option Costs) → group_data multi dsts row ≡ costs_object multi dsts (unwrap_or row [])
+    by (Some costs) = refl
+    by None = ap (λ b. cond b (Some (object (members_in_order (filter_map (member_at multi []) dsts)))) None)
+        (sym (no_pairs dsts))
 
 -- what is found between the PIDs of endpoints, each pair of PIDs once
 abbrev pub found_of : PairsData → List Endpoint → List Endpoint → List Costs

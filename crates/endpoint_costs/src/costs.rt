@@ -1,11 +1,10 @@
-ghost use Rattle.std.specs.Prelude.{◌≡◌, ◌++◌, codes, IfOk, OnOk, map};
+ghost use Rattle.std.specs.Prelude.{◌≡◌, ◌++◌, codes, IfOk, OnOk};
 ghost use Rattle.std.specs.List.{AllByRecursion};
 ghost use Rattle.serde_json.specs.Written.{compact_text};
 ghost use Rattle.alto_rows.specs.Good.{AreGood};
 ghost use Rattle.alto_rows.specs.Prefixes.{prefixes_in};
 ghost use Rattle.alto_maps.specs.Writing.{AddsMember};
 ghost use Rattle.cost_tables.specs.Tables.{AreCostsOf};
-ghost use Rattle.cost_filters.specs.Pairs.{pair_costs};
 ghost use Rattle.endpoint_costs.specs.Costs.{endpoint_costs, endpoint_meta, pairs_object};
 ghost use Rattle.endpoint_costs.specs.Spots.{IsWritten};
 
@@ -15,9 +14,9 @@ use crate::endpoint::{Endpoint, endpoints_at};
 use crate::groups::push_groups;
 use crate::spots::{pids_of, spots_of};
 use alto_addr::Addr;
-use alto_names::{NetName, PidName};
+use alto_names::NetName;
 use alto_rows::RowStore;
-use cost_filters::{Found, Pairs, write_types};
+use cost_filters::{Pairs, write_types};
 use cost_tables::CostTables;
 use json::Writer;
 use pid_prefix::RangeTable;
@@ -101,30 +100,10 @@ fn push_section<R: RowStore>(
     )?;
     let from = pids_of(alloc, &srcs)?;
     let to = pids_of(alloc, &dsts)?;
-    let found = found_between(alloc, &pairs, &from, &to)?;
+    let found = pairs.between(alloc, &from, &to)?;
     let srcs = spots_of(alloc, srcs, &from)?;
     let dsts = spots_of(alloc, dsts, &to)?;
     let ends = Destinations::of(alloc, dsts)?;
     out.push(b'{')?;
     push_groups(ask.multi, &srcs, &ends, &found, out)
-}
-
-/// The pairs of PIDs, source by source.
-fn found_between<R: RowStore>(
-    alloc: Global,
-    pairs: &Pairs<R>,
-    from: &[PidName],
-    to: &[PidName],
-) -> Result<Vec<Found>, AllocError>
-    ensures { IfOk result (λ found. found.items
-        ≡ map (λ src. map (pair_costs pairs.now src) to.now) from.now) }
-{
-    let mut found = Vec::with_capacity(alloc, from.len())?;
-    let mut asked = pairs.to(alloc, to)?;
-    for src in from {
-        let (again, one) = asked.from(alloc, src, Found::none(alloc))?;
-        found.push(one)?;
-        asked = again;
-    }
-    Ok(found)
 }

@@ -3,11 +3,12 @@ ghost use Rattle.std.specs.Prelude.{◌≡◌, ◌++◌, false, IfOk, OnOk, map}
 ghost use Rattle.std.specs.List.{filter_map};
 ghost use Rattle.serde_json.specs.Written.{members_text};
 ghost use Rattle.json_tree.specs.Tree.{members_in_order};
+ghost use Rattle.cost_filters.specs.Between.{pairs_at};
 ghost use Rattle.cost_filters.specs.Text.{member_start};
 ghost use Rattle.endpoint_costs.specs.Spots.{member_at};
 
 use crate::spots::Spot;
-use cost_filters::{Found, MemberStarts};
+use cost_filters::{MemberStarts, PairsBetween};
 use std::alloc::{AllocError, Global};
 use std::marker::Model;
 
@@ -46,17 +47,18 @@ impl Destinations {
         &self.spots
     }
 
-    /// Puts each of them with which there is a pair, with the brace behind them.
+    /// Puts each of them with which the source at a place has a pair, with the brace behind them.
     pub(crate) fn push_members(
         &self,
         multi: bool,
-        costs: &Found,
+        pairs: &PairsBetween,
+        src: usize,
         out: &mut Vec<u8>,
     ) -> Result<(), AllocError>
         ensures { OnOk result (out.new.items ≡ out.old.items ++ members_text false
-            (members_in_order (filter_map (member_at multi costs.now) self.now))) }
+            (members_in_order (filter_map (member_at multi (pairs_at pairs.now src)) self.now))) }
     {
-        push_each(multi, &self.spots, &self.starts, costs, out)
+        push_each(multi, &self.spots, &self.starts, pairs, src, out)
     }
 }
 
@@ -75,16 +77,17 @@ fn push_each(
     multi: bool,
     dsts: &[Spot],
     starts: &MemberStarts,
-    costs: &Found,
+    pairs: &PairsBetween,
+    src: usize,
     out: &mut Vec<u8>,
 ) -> Result<(), AllocError>
     requires { starts.now ≡ map (λ dst. member_start dst.text) dsts.now }
     ensures { OnOk result (out.new.items ≡ out.old.items ++ members_text false
-        (members_in_order (filter_map (member_at multi costs.now) dsts.now))) }
+        (members_in_order (filter_map (member_at multi (pairs_at pairs.now src)) dsts.now))) }
 {
     let mut later = false;
     for (place, dst) in dsts.iter().enumerate() {
-        later = costs.push_pair(multi, starts.text(place), dst.at, later, out)?;
+        later = pairs.push_pair(multi, starts.text(place), src, dst.at, later, out)?;
     }
     out.push(b'}')?;
     Ok(())

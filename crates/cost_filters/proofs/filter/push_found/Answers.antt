@@ -7,6 +7,7 @@ use Rattle.serde_json.specs.Data.{Data, object}
 use Rattle.serde_json.specs.Written.{compact_text, members_text}
 use Rattle.json_tree.specs.Tree.{members_in_order}
 use Rattle.alto_maps.specs.Shape.{Name}
+use Rattle.cost_filters.specs.Between.{pairs_at}
 use Rattle.cost_filters.specs.Text.{PutsIfAny, found_object, shown_members}
 use Rattle.cost_filters.proofs.TextLemmas.{member_put, none_put}
 use Rattle.cost_filters.proofs.filter.push_found.Goals as goal
@@ -16,7 +17,7 @@ returns c =
     let src = c.args.src.now in
     let old = c.args.out.now.items in
     let new = c.push_members.new.out.items in
-    let found = c.args.found.now in
+    let found = pairs_at c.args.pairs.now c.args.at in
     let members = members_in_order (shown_members c.args.multi c.args.dsts.now found) in
     let any : list_any (λ pair. is_some pair) found ≡ true = sym c.if-not-has_pair.ensures in
     let value : Some (object members) ≡ found_object c.args.multi c.args.dsts.now found =
@@ -36,7 +37,7 @@ pub returns-then-not-has_pair : goal.returns-then-not-has_pair
 returns-then-not-has_pair c =
     let src = c.args.src.now in
     let old = c.args.out.now.items in
-    let found = c.args.found.now in
+    let found = pairs_at c.args.pairs.now c.args.at in
     let members = members_in_order (shown_members c.args.multi c.args.dsts.now found) in
     let none : list_any (λ pair. is_some pair) found ≡ false = sym c.if-not-has_pair.ensures in
     let value : None ≡ found_object c.args.multi c.args.dsts.now found =

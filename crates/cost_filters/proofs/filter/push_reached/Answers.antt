@@ -1,8 +1,7 @@
-use Rattle.std.proofs.Common.{◌≡◌, ◌∷◌, ◌∙◌, ◌+◌, ap, drop, map, refl, subst}
+use Rattle.std.proofs.Common.{◌≡◌, ◌∷◌, ◌∙◌, ◌+◌, drop, map, refl, subst}
 use Rattle.std.proofs.lemmas.List.{drop_more}
-use Rattle.std.specs.Prelude.{List, Option, None}
+use Rattle.std.specs.Prelude.{Option, None}
 use Rattle.serde_json.specs.Data.{Data}
-use Rattle.alto_maps.specs.Shape.{Name}
 use Rattle.cost_filters.specs.Columns.{columns_of, reached}
 use Rattle.cost_filters.specs.Pairs.{pair_costs, pair_shown}
 use Rattle.cost_filters.specs.Text.{PutsIfAny, found_object, group_made}
@@ -22,14 +21,12 @@ loop-src-preserved g c =
     let group = group_made multi None pairs in
     let names = c.in_ok-reached.field-0.items in
     let all = reached pairs.rows pairs.net (columns_of pairs.rows pairs.net pairs.types) src in
-    let found : c.in_ok-found.found ≡ map (pair_costs pairs src) names =
-    c.in_ok-found.ensures ∙ ap (λ (dsts : List Name). map (pair_costs pairs src) dsts) c.in_ok-dsts.ensures in
-    let value : found_object multi c.in_ok-dsts.dsts c.in_ok-found.found ≡ group src =
-    (λ i. found_object multi (c.in_ok-dsts.ensures i) (found i))
+    let value : found_object multi c.in_ok-dsts.dsts (map (pair_costs pairs src) c.in_ok-dsts.dsts) ≡ group src =
+    (λ i. found_object multi (c.in_ok-dsts.ensures i) (map (pair_costs pairs src) (c.in_ok-dsts.ensures i)))
     ∙ (object_found (pair_costs pairs src) multi names c.in_ok-reached.ensures.rise
     ∙ set_object (pair_shown multi pairs src) names all c.in_ok-reached.ensures) in
-    let put : PutsIfAny src (group src) l.later l.out.items c.in_ok-later.later c.push_found.new.out.items =
-    subst (λ (d : Option Data). PutsIfAny src d l.later l.out.items c.in_ok-later.later c.push_found.new.out.items)
+    let put : PutsIfAny src (group src) l.later l.out.items c.in_ok-later.later c.push_source.new.out.items =
+    subst (λ (d : Option Data). PutsIfAny src d l.later l.out.items c.in_ok-later.later c.push_source.new.out.items)
     value c.in_ok-later.ensures in
     group_more group src (drop l.src-index srcs) left l.later c.in_ok-later.later l.out.items
-    c.push_found.new.out.items _ step put l.invariant
+    c.push_source.new.out.items _ step put l.invariant

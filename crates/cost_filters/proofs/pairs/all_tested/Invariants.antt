@@ -1,10 +1,12 @@
 use Rattle.std.proofs.Common.{◌≡◌, ◌++◌, ◌-◌, map}
 use Rattle.std.specs.List.{range_with_len}
-use Rattle.cost_filters.specs.Pairs.{is_shown}
+use Rattle.cost_filters.specs.Between.{flags_between, flags_from}
 use Rattle.cost_filters.proofs.pairs.all_tested.Given as goal
 
--- what is known of the places so far, and what is left, is all
-abbrev pub invariant-loop-at : goal.invariant-loop-at
-invariant-loop-at l =
-    let shown = is_shown (map (λ constraints. constraints.items) l.alternatives) l.told l.tested in
-    l.shown.items ++ map shown (range_with_len l.at (l.count - l.at)) ≡ map shown (range_with_len 0 l.count)
+-- what is known of the sources so far, and what is left, is all
+abbrev pub invariant-loop-src : goal.invariant-loop-src
+invariant-loop-src l =
+    let alternatives = map (λ constraints. constraints.items) l.alternatives in
+    map (λ row. row.items) l.flags.items
+    ++ map (flags_from alternatives l.told l.tested l.dsts) (range_with_len l.src (l.srcs - l.src))
+    ≡ flags_between alternatives l.told l.tested l.srcs l.dsts

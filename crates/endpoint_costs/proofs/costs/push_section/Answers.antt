@@ -47,7 +47,7 @@ returns g c =
     ∙ ap (λ (ends : List Endpoint). set_of (pids ends)) c.deref-4.ensures.value in
     let to : c.in_ok-to.to.items ≡ set_of (pids dsts) = c.in_ok-to.ensures
     ∙ ap (λ (ends : List Endpoint). set_of (pids ends)) c.deref-5.ensures.value in
-    let found : c.in_ok-found.found.items ≡ found_of (pairs_of rows net (pid_ask ask)) srcs dsts =
+    let found : c.in_ok-found.found ≡ found_of (pairs_of rows net (pid_ask ask)) srcs dsts =
     c.in_ok-found.ensures ∙ (λ i. map (λ src. map (pair_costs (made i) src) ((c.deref-7.ensures.value ∙ to) i))
     ((c.deref-6.ensures.value ∙ from) i)) in
     let first : c.in_ok-srcs.srcs.items ≡ map (spot_in (set_of (pids srcs))) (entries_of srcs) =
@@ -55,14 +55,14 @@ returns g c =
     let second : c.in_ok-dsts.dsts.items ≡ map (spot_in (set_of (pids dsts))) (entries_of dsts) =
     c.in_ok-dsts.ensures ∙ (λ i. map (spot_in ((c.deref-9.ensures.value ∙ to) i)) (entries_of dsts)) in
     let whole : object (members_in_order
-    (filter_map (group_at c.ask.inside.multi c.in_ok-ends.ends c.deref-11.result.now) c.deref-10.result.now))
+    (filter_map (group_at c.ask.inside.multi c.in_ok-ends.ends c.in_ok-found.found) c.deref-10.result.now))
     ≡ pairs_object rows net ask srcs dsts =
     (λ i. object (members_in_order (filter_map
-    (group_at (multi i) ((c.in_ok-ends.ensures ∙ second) i) ((c.deref-11.ensures.value ∙ found) i))
+    (group_at (multi i) ((c.in_ok-ends.ensures ∙ second) i) (found i))
     ((c.deref-10.ensures.value ∙ first) i))))
     ∙ groups_are rows net ask (prefixes_in rows net) srcs dsts c.requires.srcs c.requires.dsts in
     let members = members_in_order
-    (filter_map (group_at c.ask.inside.multi c.in_ok-ends.ends c.deref-11.result.now) c.deref-10.result.now) in
+    (filter_map (group_at c.ask.inside.multi c.in_ok-ends.ends c.in_ok-found.found) c.deref-10.result.now) in
     on_ok_weaker c.push_groups.result
     (λ put. put
     ∙ (ap (λ bytes. bytes ++ members_text false members) c.in_ok-push.ensures.items

@@ -8,6 +8,7 @@ use Rattle.cost_filters.specs.Text.{PutsIfAny, member_start}
 use Rattle.cost_filters.proofs.StartsLemmas.{text_for}
 use Rattle.cost_filters.proofs.TextLemmas.{any_more}
 use Rattle.endpoint_costs.specs.declared.spots.Spot.{Spot}
+use Rattle.cost_filters.specs.Between.{pairs_at}
 use Rattle.endpoint_costs.specs.Spots.{member_at, value_at}
 use Rattle.endpoint_costs.proofs.destinations.push_each.Goals as goal
 
@@ -19,8 +20,8 @@ loop-place-preserved c =
     let left = drop (l.place + 1) dsts in
     let step : drop l.place dsts ≡ dst ∷ left =
     rw (drop_more dsts l.place dst c.loop-place-test.true, ← c.index-dsts-place.is) refl in
-    let member = member_at c.args.multi c.args.costs.now in
-    let value = value_at c.args.multi c.args.costs.now dst.at in
+    let member = member_at c.args.multi (pairs_at c.args.pairs.now c.args.src) in
+    let value = value_at c.args.multi (pairs_at c.args.pairs.now c.args.src) dst.at in
     let start : c.text.result.now ≡ member_start dst.text =
     c.text.ensures
     ∙ (ap (λ (texts : List (List ℕ)). unwrap_or (slice_get texts l.place) []) c.requires

@@ -17,8 +17,8 @@ loop-src-preserved c =
     let left = drop (l.src-index + 1) srcs in
     let step : drop l.src-index srcs ≡ src ∷ left =
     rw (drop_more srcs l.src-index src c.loop-src-test.true, ← c.src-item.is) refl in
-    let group = group_at c.args.multi c.args.dsts.now c.args.found.now in
-    let value = group_data c.args.multi c.args.dsts.now (slice_get c.args.found.now src.at) in
+    let group = group_at c.args.multi c.args.dsts.now c.args.pairs.now in
+    let value = group_data c.args.multi c.args.dsts.now (slice_get c.args.pairs.now src.at) in
     any_more src.text value (filter_map group left) l.later c.in_ok-later.later l.out.items c.push_group.new.out.items
     c.in_ok-later.ensures
     ∙ (ap (λ (spots : List Spot). l.out.items ++ members_text l.later (members_in_order (filter_map group spots)))

@@ -11,8 +11,9 @@ same_number (Some n) number same = ap (λ (n : ℕ). Some n) (eqb-true n number 
 
 pub returns-then-eq-clause-found : goal.returns-then-eq-clause-found
 returns-then-eq-clause-found c =
-    same_number c.args.self.now.number c.number-number.result (sym c.eq.ensures ∙ c.if-eq.true)
-    ∙ ap (λ (n : ℕ). Some n) c.number-number.ensures
+    ap (λ placed. placed.number) (sym c.self.view_is)
+    ∙ (same_number c.self.inside.number c.number-number.result (sym c.eq.ensures ∙ c.if-eq.true)
+    ∙ ap (λ (n : ℕ). Some n) c.number-number.ensures)
 
 pub returns-in_err-find-clause-right : goal.returns-in_err-find-clause-right
 returns-in_err-find-clause-right c sources test numbers found right = no_places sources _ _

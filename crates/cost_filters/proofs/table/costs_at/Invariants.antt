@@ -1,9 +1,0 @@
-use Rattle.std.proofs.Common.{◌≡◌, ◌++◌, drop, map}
-use Rattle.cost_filters.specs.Pairs.{costs_at}
-use Rattle.cost_filters.proofs.table.costs_at.Given as goal
-
--- the costs that are there, and those of the columns that are left, are all
-abbrev pub invariant-loop-column : goal.invariant-loop-column
-invariant-loop-column l =
-    l.costs.items ++ costs_at l.at (map (λ column. column.items) (drop l.column-index l.columns))
-    ≡ costs_at l.at (map (λ column. column.items) l.columns)

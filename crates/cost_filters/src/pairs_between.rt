@@ -1,0 +1,138 @@
+ghost use Rattle.std.specs.Prelude.{◌≡◌, false, IfOk, is_some, map, option_map, slice_get, unwrap_or};
+ghost use Rattle.std.specs.List.{list_any};
+ghost use Rattle.alto_maps.specs.Shape.{Name};
+ghost use Rattle.cost_filters.specs.Between.{flag_at, is_flagged, pairs_at, rows_shown};
+ghost use Rattle.cost_filters.specs.Filter.{costs_data};
+ghost use Rattle.cost_filters.specs.Pairs.{if_there};
+ghost use Rattle.cost_filters.specs.Text.{PutsIfAny, member_start};
+
+use crate::column_between::{ColumnBetween, has_cost, push_costs};
+use crate::starts::push_made;
+use std::alloc::AllocError;
+use std::marker::Model;
+
+/// The pairs between sources and destinations. A contract sees a list for each source: for each destination the costs
+/// by the asked types, in their order, `None` where it is no pair.
+#[derive(Drop)]
+pub struct PairsBetween<'a> {
+    costs: Vec<ColumnBetween<'a>>,
+    shown: Shown,
+    sources: usize,
+    destinations: usize,
+}
+
+/// Which costs make a pair.
+#[derive(Drop)]
+pub(crate) enum Shown {
+    /// All of sources and destinations that have a cost.
+    WithCost,
+    /// Those for which it is true, by source.
+    Flagged(Vec<Vec<bool>>),
+}
+
+impl<'a> Model for PairsBetween<'a> {
+    ghost use Rattle.std.specs.Prelude.{ℕ, List, Option};
+    ghost use Rattle.cost_filters.specs.Between.{Found, rows_shown};
+
+    ghost Value = { List Found };
+
+    ghost view = { λ pairs. rows_shown pairs.costs.items pairs.shown pairs.sources pairs.destinations };
+}
+
+impl<'a> PairsBetween<'a> {
+    /// Those with these costs, where they are shown.
+    pub(crate) fn new(
+        costs: Vec<ColumnBetween<'a>>,
+        shown: Shown,
+        sources: usize,
+        destinations: usize,
+    ) -> PairsBetween<'a>
+        ensures { result ≡ rows_shown costs.entry.items shown sources destinations }
+    {
+        PairsBetween {
+            costs,
+            shown,
+            sources,
+            destinations,
+        }
+    }
+}
+
+impl PairsBetween<'_> {
+    /// Whether the source at a place has a pair.
+    pub fn has_pair(&self, src: usize) -> bool
+        ensures { result ≡ list_any (λ pair. is_some pair) (pairs_at self.now src) }
+    {
+        for dst in 0..self.destinations {
+            if self.is_pair(src, dst) {
+                return true;
+            }
+        }
+        false
+    }
+
+    /// Whether the source and the destination at these places are one.
+    pub fn is_pair(&self, src: usize, dst: usize) -> bool
+        ensures { result ≡ is_some (if_there (slice_get (pairs_at self.now src) dst)) }
+    {
+        if src >= self.sources {
+            return false;
+        }
+        if dst >= self.destinations {
+            return false;
+        }
+        is_shown(&self.costs, &self.shown, src, dst)
+    }
+
+    /// Puts the costs of the source and the destination at these places as a member, if they are a pair, whose name was
+    /// made by `MemberStarts`: in the form of several a list, else the one. Tells whether a member stands before the
+    /// next.
+    pub fn push_pair(
+        &self,
+        multi: bool,
+        start: &[u8],
+        src: usize,
+        dst: usize,
+        later: bool,
+        out: &mut Vec<u8>,
+    ) -> Result<bool, AllocError>
+        ensures { IfOk result (λ after. (name : Name) → start.now ≡ member_start name
+            → PutsIfAny name (option_map (costs_data multi) (if_there (slice_get (pairs_at self.now src) dst)))
+            later out.old.items after out.new.items) }
+    {
+        if !self.is_pair(src, dst) {
+            return Ok(later);
+        }
+        push_made(start, later, out)?;
+        push_costs(&self.costs, multi, src, dst, out)?;
+        Ok(true)
+    }
+}
+
+/// Whether the costs between a source and a destination at these places make a pair.
+fn is_shown(costs: &[ColumnBetween], shown: &Shown, src: usize, dst: usize) -> bool
+    ensures { result ≡ is_flagged costs.now shown.now src dst }
+{
+    match shown {
+        Shown::WithCost => has_cost(costs, src, dst),
+        Shown::Flagged(flags) => flag_at(flags, src, dst),
+    }
+}
+
+fn flag_at(flags: &[Vec<bool>], src: usize, dst: usize) -> bool
+    ensures { result ≡ flag_at (map (λ row. row.items) flags.now) src dst }
+{
+    match flags.get(src) {
+        Some(row) => is_set(row, dst),
+        None => false,
+    }
+}
+
+fn is_set(flags: &[bool], at: usize) -> bool
+    ensures { result ≡ unwrap_or (slice_get flags.now at) false }
+{
+    match flags.get(at) {
+        Some(flag) => *flag,
+        None => false,
+    }
+}

@@ -1,0 +1,100 @@
+//! The costs in a metric between sources and destinations.
+ghost use Rattle.std.specs.Prelude.{◌≡◌, None, IfOk, OnOk, map, option_map, slice_get};
+ghost use Rattle.std.specs.BTreeMap.{is_at};
+ghost use Rattle.std.specs.Map.{lookup};
+ghost use Rattle.alto_rows.specs.Order.{name_cmp};
+ghost use Rattle.cost_tables.specs.Lists.{ArePlacesFor, HaveNumbers, sources_in, table_of};
+ghost use Rattle.cost_tables.specs.Tables.{cost_told, costs_between};
+
+use crate::from_source::FromSource;
+use crate::places::Places;
+use crate::table::Table;
+use alto_names::PidName;
+use std::alloc::{AllocError, Global};
+
+/// The costs in a metric from sources to destinations, of a table, if the metric has one.
+///
+/// One binary search for each source. Where the destinations stand is found once for all sources in a row that have the
+/// same: by one comparison of two names for each that follows the one before among the source's too, else by one binary
+/// search.
+pub(crate) fn costs_between(
+    alloc: Global,
+    table: Option<&Table>,
+    sources: &[PidName],
+    destinations: &[PidName],
+) -> Result<Vec<Vec<Option<u64>>>, AllocError>
+    ensures { IfOk result (λ costs. map (λ row. row.items) costs.items
+        ≡ costs_between (table_of (sources_in (option_map (λ table. table.now) table.entry)))
+        sources.now destinations.now) }
+{
+    let mut all = Vec::with_capacity(alloc, sources.len())?;
+    let mut places = Places::new(alloc);
+    for source in sources {
+        let costs = costs_from(alloc, table, source, destinations, &mut places)?;
+        all.push(costs)?;
+    }
+    Ok(all)
+}
+
+/// Those from one source, where the destinations stand at these places in the lists with their number.
+fn costs_from(
+    alloc: Global,
+    table: Option<&Table>,
+    source: &PidName,
+    destinations: &[PidName],
+    places: &mut Places,
+) -> Result<Vec<Option<u64>>, AllocError>
+    requires { ArePlacesFor (sources_in (option_map (λ table. table.now) table)) destinations.now places.old }
+    ensures costs { IfOk result (λ costs. costs.items
+        ≡ map (cost_told (table_of (sources_in (option_map (λ table. table.now) table.entry))) source.now)
+        destinations.now) }
+    ensures places { OnOk result
+        (ArePlacesFor (sources_in (option_map (λ table. table.now) table.entry)) destinations.now places.new) }
+{
+    let Some(from) = from_in(table, source) else {
+        return no_costs(alloc, destinations);
+    };
+    places.find(from, destinations)?;
+    costs_at(alloc, from.costs(), places.places())
+}
+
+/// No cost, for each of these destinations.
+fn no_costs(alloc: Global, destinations: &[PidName]) -> Result<Vec<Option<u64>>, AllocError>
+    ensures { IfOk result (λ costs. costs.items ≡ map (λ destination. None) destinations.now) }
+{
+    let mut costs = Vec::with_capacity(alloc, destinations.len())?;
+    for _ in destinations {
+        costs.push(None)?;
+    }
+    Ok(costs)
+}
+
+/// The costs at places, `None` where there is none. No read waits for another, as it would where each were written to
+/// an answer first.
+fn costs_at(alloc: Global, costs: &[u64], places: &[usize]) -> Result<Vec<Option<u64>>, AllocError>
+    ensures { IfOk result (λ found. found.items ≡ map (slice_get costs.now) places.now) }
+{
+    let mut found = Vec::with_capacity(alloc, places.len())?;
+    for place in places {
+        found.push(cost_at(costs, *place))?;
+    }
+    Ok(found)
+}
+
+fn cost_at(costs: &[u64], place: usize) -> Option<u64>
+    ensures { result ≡ slice_get costs.now place }
+{
+    Some(*costs.get(place)?)
+}
+
+/// The costs from a source in a table, if there are any. One binary search.
+fn from_in<'a>(table: Option<&'a Table>, source: &PidName) -> Option<&'a FromSource>
+    ensures from { option_map (λ from. from.now.1) result
+        ≡ lookup (is_at (name_cmp source.now)) (sources_in (option_map (λ table. table.now) table.entry)) }
+    ensures lists { HaveNumbers (sources_in (option_map (λ table. table.now) table.entry)) }
+{
+    match table {
+        Some(table) => table.from(source),
+        None => None,
+    }
+}
