@@ -10,3 +10,4 @@ pub mod TextLemmas
 pub mod PlainLemmas
 pub mod StartsLemmas
 pub mod BetweenLemmas
+pub mod NamesLemmas

@@ -9,11 +9,18 @@ use alto_asks::{AskCode, AskFault};
 use json_tree::{Name, Tree};
 use std::alloc::{AllocError, Global};
 
+/// Room for a path, which those of requests don't outgrow.
+const PATH_ROOM: usize = 32;
+
 /// The field of a member of a field's value.
 pub fn nested(alloc: Global, field: &str, name: &str) -> Result<String, AllocError>
     ensures { IfOk result (λ path. string_bytes path ≡ nested field.now name.now) }
 {
-    format!(in alloc; "{field}/{name}")
+    let mut path = String::with_capacity(alloc, PATH_ROOM)?;
+    path.push_str(field)?;
+    path.push('/')?;
+    path.push_str(name)?;
+    Ok(path)
 }
 
 /// The value of this field can't be had.

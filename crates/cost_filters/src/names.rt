@@ -13,18 +13,25 @@ use alto_names::{NetName, PidName};
 use alto_rows::{Key, RowStore, Span, Within, rows_in};
 use net_docs::Pick;
 use std::alloc::{AllocError, Global};
-use std::collections::BTreeSet;
 
 /// The distinct ones among names, in byte order. Costs one sort.
-#[tactic(auto, unfolding(alto_maps::specs::Places::set_of))]
 pub fn distinct(alloc: Global, names: &[PidName]) -> Result<Vec<PidName>, AllocError>
     ensures { IfOk result (λ set. set.items ≡ set_of names.now) }
 {
-    let mut set = BTreeSet::new(alloc);
+    let mut set = copies(alloc, names)?;
+    set.sort()?;
+    set.dedup();
+    Ok(set)
+}
+
+fn copies(alloc: Global, names: &[PidName]) -> Result<Vec<PidName>, AllocError>
+    ensures { IfOk result (λ copies. copies.items ≡ names.now) }
+{
+    let mut copies = Vec::with_capacity(alloc, names.len())?;
     for name in names {
-        set.insert(name.clone()?)?;
+        copies.push(name.clone()?)?;
     }
-    set.into_iter().collect(alloc)
+    Ok(copies)
 }
 
 /// The PIDs that may be sources: those that are given, or all of the network by one walk over their rows.
