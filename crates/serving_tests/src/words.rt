@@ -1,5 +1,4 @@
 //! Command lines, each a run of the program.
-use crate::talks::{begun, parted, reply, request};
 use alto_answers::Side;
 use alto_doors::{Doors, MemDoors};
 use alto_http::{Link, MemLink};
@@ -7,6 +6,7 @@ use alto_hub::{Bell, IdleBell, ThreadBell};
 use alto_keeper::{MemVault, Vault};
 use alto_run::run;
 use alto_serve::{Clock, FixedClock};
+use connection_tests::{begun, parted, reply, request};
 use json_tree::Name;
 use std::alloc::{AllocError, Global};
 use std::sync::Wait;
