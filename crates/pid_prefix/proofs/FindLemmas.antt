@@ -1,63 +1,79 @@
 -- What a table finds is the PID of the longest prefix.
-use Rattle.std.proofs.Common.{◌≡◌, ℕ, ◌*◌, ◌^◌, ◌≤◌, ap, sym, ◌∙◌, arith, subst, refl, get_or}
+use Rattle.std.proofs.Common.{◌≡◌, ℕ, ◌*◌, ◌^◌, ◌<◌, ◌≤◌, ap, sym, ◌∙◌, arith, subst, refl}
 use Rattle.std.specs.Prelude.{List, length, map, Option, Some, None}
-use Rattle.std.proofs.lemmas.List.{get_or-map}
+use Rattle.std.specs.List.Sorted.{IsNonDecreasingBy}
+use Rattle.std.specs.Option.{option_map}
+use Rattle.std.proofs.lemmas.List.{length-map}
+use Rattle.std.proofs.lemmas.Option.{slice_get-get_or}
 use Rattle.alto_addr.specs.declared.addr.Addr.{Addr}
 use Rattle.alto_addr.specs.declared.addr.Addr.TheVariants as addr
 use Rattle.alto_addr.specs.Bits.{HasBits}
 use Rattle.pid_prefix.specs.declared.range.Range.{Range}
 use Rattle.pid_prefix.specs.Longest.{Row, AreDistinct, IsLongest, longest_prefix}
-use Rattle.pid_prefix.specs.Ranges.{AreRising, row_at}
-use Rattle.pid_prefix.specs.Table.{AreNarrowed, IsLongestAt, place_of}
+use Rattle.pid_prefix.specs.PidRanges.{PidRange, pid_at, row_pid, with_pid}
+use Rattle.pid_prefix.specs.Ranges.{AreRising, below, row_at}
+use Rattle.pid_prefix.specs.Table.{AreNarrowed, IsLongestAt, pid_in}
 use Rattle.pid_prefix.proofs.LongestLemmas.{longest_prefix_answers, one_longest}
-use Rattle.pid_prefix.proofs.RangesLemmas.{length-below, rising_below, row_at-below}
+use Rattle.pid_prefix.proofs.RangesLemmas.{length-below, pid_at-with_pids, rising_below, row_at-below, with_pids_rise}
 
--- the ranges that a table keeps rise
-pub narrowed_rise : (rows : List Row) (v4 v6 : List Range) → AreNarrowed rows v4 v6 → AreRising v4 × AreRising v6
+-- ---- the ranges of one family
+
+-- ranges that are kept don't fall
+kept_rise : (limit : ℕ) (rows : List Row) (all : List Range) (kept : List PidRange) → AreRising all
+    → kept ≡ map (with_pid rows) (below limit all) → IsNonDecreasingBy (λ range. range.0) kept
+kept_rise limit rows all kept rising is =
+    subst (IsNonDecreasingBy (λ range. range.0)) (sym is)
+    (with_pids_rise rows (below limit all) (rising_below limit all rising))
+
+-- they are no more than all
+kept_count : (limit : ℕ) (rows : List Row) (all : List Range) (kept : List PidRange)
+    → kept ≡ map (with_pid rows) (below limit all) → length kept ≤ length all
+kept_count limit rows all kept is =
+    omega (arith, ap length is, length-map (below limit all) (with_pid rows), length-below limit all)
+
+-- they give a number below the limit the PID of the row that all give it
+kept_pid : (limit : ℕ) (rows : List Row) (all : List Range) (kept : List PidRange) (number : ℕ) → number < limit
+    → kept ≡ map (with_pid rows) (below limit all) → pid_at kept number ≡ row_pid rows (row_at all number)
+kept_pid limit rows all kept number low is =
+    ap (λ ranges. pid_at ranges number) is
+    ∙ (pid_at-with_pids rows (below limit all) number ∙ ap (row_pid rows) (row_at-below limit number all low))
+
+-- ---- the ranges of both
+
+-- the ranges that a table keeps don't fall
+pub narrowed_rise : (rows : List Row) (v4 v6 : List PidRange) → AreNarrowed rows v4 v6
+    → IsNonDecreasingBy (λ range. range.0) v4 × IsNonDecreasingBy (λ range. range.0) v6
 narrowed_rise rows v4 v6 table = (
-  subst AreRising (sym table.3) (rising_below (2 ^ 32) table.0 table.2.v4.rising),
-  subst AreRising (sym table.4) (rising_below (2 ^ 128) table.1 table.2.v6.rising),
+  kept_rise (2 ^ 32) rows table.0 v4 table.2.v4.rising table.3,
+  kept_rise (2 ^ 128) rows table.1 v6 table.2.v6.rising table.4,
 )
 
 -- and are two for each row at most
-pub narrowed_count : (rows : List Row) (v4 v6 : List Range) → AreNarrowed rows v4 v6
+pub narrowed_count : (rows : List Row) (v4 v6 : List PidRange) → AreNarrowed rows v4 v6
     → (length v4 ≤ 2 * length rows) × (length v6 ≤ 2 * length rows)
 narrowed_count rows v4 v6 table = (
-  omega (arith, ap length table.3, length-below (2 ^ 32) table.0, table.2.v4.count),
-  omega (arith, ap length table.4, length-below (2 ^ 128) table.1, table.2.v6.count),
+  omega (arith, kept_count (2 ^ 32) rows table.0 v4 table.3, table.2.v4.count),
+  omega (arith, kept_count (2 ^ 128) rows table.1 v6 table.4, table.2.v6.count),
 )
 
--- the place that a table gives an address
-place_longest : (rows : List Row) (v4 v6 : List Range) (a : Addr) → AreNarrowed rows v4 v6 → HasBits a
-    → IsLongestAt rows a (place_of v4 v6 a)
-place_longest rows v4 v6 (addr.V4 number) table fits =
-    subst (IsLongestAt rows (addr.V4 number))
-    (sym (ap (λ ranges. row_at ranges number) table.3 ∙ row_at-below (2 ^ 32) number table.0 fits))
-    (table.2.v4.longest number (omega (arith, fits)))
-place_longest rows v4 v6 (addr.V6 number) table fits =
-    subst (IsLongestAt rows (addr.V6 number))
-    (sym (ap (λ ranges. row_at ranges number) table.4 ∙ row_at-below (2 ^ 128) number table.1 fits))
-    (table.2.v6.longest number fits)
-
--- no place, no PID
-pub none_found : (rows : List Row) (a : Addr) → AreDistinct rows → IsLongestAt rows a None
-    → None ≡ longest_prefix rows a
-none_found rows a distinct never =
+-- the PID of the row at the place of the longest prefix
+longest_pid : (rows : List Row) (a : Addr) (place : Option ℕ) → AreDistinct rows → IsLongestAt rows a place
+    → row_pid rows place ≡ longest_prefix rows a
+longest_pid rows a None distinct never =
     one_longest rows a None (longest_prefix rows a) distinct never (longest_prefix_answers rows a)
-
--- the PID of the row at the place, among the PIDs of the rows
-pub pid_found : (rows : List Row) (pids : List (List ℕ)) (a : Addr) (place : ℕ) (pid : List ℕ) → AreDistinct rows
-    → pids ≡ map (λ (row : Row). row.1) rows → IsLongestAt rows a (Some place)
-    → pid ≡ get_or pids place pid → Some pid ≡ longest_prefix rows a
-pid_found rows pids a place pid distinct are at is =
-    let same : pid ≡ at.0.1 = is ∙ ap (λ (all : List (List ℕ)). get_or all place pid) are
-    ∙ get_or-map (λ (row : Row). row.1) rows place at.0 pid at.1.0 ∙ ap (λ (row : Row). row.1) (sym at.1.1) in
+longest_pid rows a (Some place) distinct at =
     let found : IsLongest rows a (Some at.0.1) = (at.0, (place, at.1.0, sym at.1.1), refl, at.2, at.3) in
-    ap Some same ∙ one_longest rows a (Some at.0.1) (longest_prefix rows a) distinct
-    found (longest_prefix_answers rows a)
+    ap (option_map (λ (row : Row). row.1)) (slice_get-get_or rows place at.0 at.1.0)
+    ∙ (ap (λ (row : Row). Some row.1) (sym at.1.1)
+    ∙ one_longest rows a (Some at.0.1) (longest_prefix rows a) distinct found (longest_prefix_answers rows a))
 
--- the place that a table finds, in the words of the code
-pub place_found : (rows : List Row) (v4 v6 : List Range) (a : Addr) (place : Option ℕ) → AreNarrowed rows v4 v6
-    → HasBits a → place ≡ place_of v4 v6 a → IsLongestAt rows a place
-place_found rows v4 v6 a place table fits is =
-    subst (IsLongestAt rows a) (sym is) (place_longest rows v4 v6 a table fits)
+-- what the ranges of a table give an address
+pub pid_found : (rows : List Row) (v4 v6 : List PidRange) (a : Addr) → AreNarrowed rows v4 v6 → HasBits a
+    → pid_in v4 v6 a ≡ longest_prefix rows a
+pid_found rows v4 v6 (addr.V4 number) table fits =
+    kept_pid (2 ^ 32) rows table.0 v4 number fits table.3
+    ∙ longest_pid rows (addr.V4 number) (row_at table.0 number) table.2.distinct
+    (table.2.v4.longest number (omega (arith, fits)))
+pid_found rows v4 v6 (addr.V6 number) table fits =
+    kept_pid (2 ^ 128) rows table.1 v6 number fits table.4
+    ∙ longest_pid rows (addr.V6 number) (row_at table.1 number) table.2.distinct (table.2.v6.longest number fits)

@@ -1,5 +1,5 @@
 -- A pass over blocks sweeps them.
-use Rattle.std.proofs.Common.{◌≡◌, ℕ, ◌+◌, ◌-◌, ◌^◌, ◌<◌, ◌≤◌, refl, ap, sym, ◌∙◌, arith, subst, ◌⊎◌, ⊎_elim}
+use Rattle.std.proofs.Common.{◌≡◌, ℕ, ◌+◌, ◌^◌, ◌<◌, ◌≤◌, refl, ap, sym, ◌∙◌, arith, subst, ⊎_elim}
 use Rattle.std.proofs.Common.{get_or, take}
 use Rattle.std.specs.Prelude.{List, [], ◌∷◌, ◌++◌, length, None}
 use Rattle.std.specs.List.{All, Contains}

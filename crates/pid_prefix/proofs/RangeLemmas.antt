@@ -1,16 +1,14 @@
 -- What ranges give a number: the last row of those that begin by it.
-use Rattle.std.proofs.Common.{◌≡◌, ℕ, ◌+◌, ◌-◌, ◌*◌, ◌^◌, ◌<◌, ◌≤◌, refl, ap, sym, ◌∙◌, arith, take, drop, get_or, zero}
+use Rattle.std.proofs.Common.{◌≡◌, ℕ, ◌+◌, ◌-◌, ◌*◌, ◌^◌, ◌<◌, ◌≤◌, refl, ap, ◌∙◌, arith, zero}
 use Rattle.std.proofs.Common.{suc}
 use Rattle.std.proofs.Math.Nat.{mul-le-mul_left, pow-suc}
-use Rattle.std.specs.Prelude.{List, [], ◌∷◌, ◌++◌, length, Option, None, cond, nat_le}
+use Rattle.std.specs.Prelude.{List, [], ◌∷◌, ◌++◌, Option, cond, nat_le}
 use Rattle.std.specs.List.{All, filter}
 use Rattle.std.specs.List.Sorted.{IsNonDecreasingBy}
 use Rattle.std.proofs.lemmas.Bool.{le-leb, lt-leb}
-use Rattle.std.proofs.lemmas.List.{append-nil, get_or_default, take-append-drop, take_more, get_or-take, get_or-drop}
-use Rattle.std.proofs.lemmas.List.{length-drop, length-take-le}
-use Rattle.std.proofs.lemmas.List.Elements.{filter-append, All-nil, All-cons, All-head, All-tail, All-append}
+use Rattle.std.proofs.lemmas.List.Elements.{All-nil, All-cons, All-head, All-tail, All-append}
 use Rattle.pid_prefix.specs.declared.range.Range.{Range}
-use Rattle.pid_prefix.specs.Ranges.{AreRising, last_row, row_at}
+use Rattle.pid_prefix.specs.Ranges.{AreRising, last_row}
 
 -- ---- which ranges begin by a number
 
@@ -88,49 +86,6 @@ rising_back [] more h = h
 rising_back (range ∷ rest) more h = rising_back rest more h.1
 
 -- ---- a search
-
--- a range begins by the number, and so do those before it
-pub begin_by : (ranges : List Range) (number at : ℕ) (e : Range) → AreRising ranges → at < length ranges
-    → (get_or ranges at e).first ≤ number
-    → (k : ℕ) (d : Range) → k < at + 1 → (get_or ranges k d).first ≤ number
-begin_by ranges number at e rising below here k d low =
-    let same : (get_or ranges at d).first ≡ (get_or ranges at e).first =
-    ap (λ range. range.first) (get_or_default ranges at d e below) in
-    omega (arith, rising_places ranges rising k at d (omega arith) below)
-
--- a range begins behind the number, and so do those behind it
-pub begin_past : (ranges : List Range) (number at : ℕ) (e : Range) → AreRising ranges → at < length ranges
-    → number < (get_or ranges at e).first
-    → (k : ℕ) (d : Range) → at ≤ k → k < length ranges → number < (get_or ranges k d).first
-begin_past ranges number at e rising below here k d high end =
-    let same : (get_or ranges at d).first ≡ (get_or ranges at e).first =
-    ap (λ range. range.first) (get_or_default ranges at d e below) in
-    omega (arith, rising_places ranges rising at k d high end)
-
--- where the ranges before a place begin by the number and the others don't, the row is that before the place
-pub row_at-parted : (ranges : List Range) (number at : ℕ) → at ≤ length ranges
-    → ((k : ℕ) (d : Range) → k < at → (get_or ranges k d).first ≤ number)
-    → ((k : ℕ) (d : Range) → at ≤ k → k < length ranges → number < (get_or ranges k d).first)
-    → row_at ranges number ≡ last_row None (take at ranges)
-unfolding row_at
-row_at-parted ranges number at within before behind =
-    let front : AllBy number (take at ranges) = λ k d below.
-    let low : k < at = omega (arith, length-take-le at ranges within) in
-    rw (get_or-take at ranges k d low) (before k d low) in
-    let back : AllPast number (drop at ranges) = λ k d below.
-    rw (get_or-drop at ranges k d) (behind (at + k) d (omega arith) (omega (arith, length-drop at ranges))) in
-    let parts = take-append-drop at ranges in
-    let begun = filter (λ (range : Range). nat_le range.first number) in
-    ap (λ all. last_row None (begun all)) (sym parts)
-    ∙ (ap (last_row None) (filter-append _ (take at ranges) (drop at ranges)
-    ∙ (ap (λ kept. kept ++ begun (drop at ranges)) (kept_by number (take at ranges) front)
-    ∙ (ap (λ kept. take at ranges ++ kept) (none_past number (drop at ranges) back) ∙ append-nil (take at ranges)))))
-
--- the row of the last of the first ranges
-pub last_row-more : (ranges : List Range) (i : ℕ) (d : Range) → i < length ranges
-    → last_row None (take (i + 1) ranges) ≡ (get_or ranges i d).row
-last_row-more ranges i d below = ap (last_row None) (take_more ranges i d below)
-    ∙ last_row-append None (take i ranges) (get_or ranges i d ∷ [])
 
 -- a step that leaves at most half of a part that isn't empty
 pub step_halves : (from to wide left n : ℕ) → from ≤ to → 2 ^ (to - from) * wide ≤ n → 0 < wide → 2 * left ≤ wide

@@ -1,78 +1,53 @@
--- Ranges whose firsts stand apart from their rows, and those that begin below a number.
+-- Ranges whose firsts stand apart from their PIDs, and those that begin below a number.
 use Rattle.std.proofs.Common.{◌≡◌, ℕ, ◌+◌, ◌-◌, ◌/◌, ◌<◌, ◌≤◌, rules, refl, ap, sym, subst, ◌∙◌, arith}
 use Rattle.std.proofs.Common.{take, get_or, zero, suc, ⊎_elim}
 use Rattle.std.specs.Prelude.{List, [], ◌∷◌, ◌++◌, length, map, Option, None, Bool, true, false}
 use Rattle.std.specs.Prelude.{cond, nat_le, nat_lt, IsTrue, ◌↔◌}
-use Rattle.std.specs.List.{All, AllWithin, filter}
+use Rattle.std.specs.List.{All, AllWithin, filter, zip}
 use Rattle.std.specs.List.Sorted.{IsNonDecreasingBy, IsPartitionPoint}
 use Rattle.std.proofs.lemmas.Bool.{cases_lt, le-leb, le-ltb, lt-leb, lt-ltb}
-use Rattle.std.proofs.lemmas.List.{append-nil, get_or-map, get_or_default, length-map, length_push, map-append}
-use Rattle.std.proofs.lemmas.List.Elements.{All-filter, filter_more}
+use Rattle.std.proofs.lemmas.List.{append-nil, get_or-map, get_or_default, length-map, length_push, map_push}
+use Rattle.std.proofs.lemmas.List.Elements.{All-filter, AllWithin-none, filter_more}
+use Rattle.std.proofs.lemmas.Slice.Zip.{firsts-zip, get_or-zip}
 use Rattle.pid_prefix.specs.declared.range.Range.{Range}
-use Rattle.pid_prefix.specs.Ranges.{AreRising, below, last_row, ranges_with, row_at}
-use Rattle.pid_prefix.proofs.RangeLemmas.{last_row-more, rising_places, row_at-parted}
+use Rattle.pid_prefix.specs.Longest.{Row}
+use Rattle.pid_prefix.specs.PidRanges.{PidRange, last_pid, pid_at, row_pid, with_pid}
+use Rattle.pid_prefix.specs.Ranges.{AreRising, below, last_row, row_at}
+use Rattle.pid_prefix.proofs.RangeLemmas.{rising_places}
 
--- ---- firsts and rows
+-- ---- firsts and PIDs
 
 -- as many ranges as firsts
-pub length-ranges_with : (firsts : List ℕ) (rows : List (Option ℕ)) → length firsts ≡ length rows
-    → length (ranges_with firsts rows) ≡ length firsts
-length-ranges_with [] rows same = refl
-length-ranges_with (first ∷ firsts) [] same = absurd (omega (arith, same))
-length-ranges_with (first ∷ firsts) (row ∷ rows) same =
-    ap suc (length-ranges_with firsts rows (omega (arith, same)))
+pub length-zipped : {A B : Type 0} (value : A → ℕ) (firsts : List A) (pids : List B) → length firsts ≡ length pids
+    → length (zip (map value firsts) pids) ≡ length firsts
+length-zipped value firsts pids same =
+    let long : length pids ≡ length (map value firsts) = sym (length-map firsts value ∙ same) in
+    sym (length-map (zip (map value firsts) pids) (λ range. range.0))
+    ∙ (ap length (firsts-zip (map value firsts) pids long) ∙ length-map firsts value)
 
--- as many as numbers that firsts stand for
-pub length-with_values : {A : Type 0} (value : A → ℕ) (firsts : List A) (rows : List (Option ℕ))
-    → length firsts ≡ length rows → length (ranges_with (map value firsts) rows) ≡ length firsts
-length-with_values value firsts rows same =
-    length-ranges_with (map value firsts) rows (length-map firsts value ∙ same) ∙ length-map firsts value
-
--- the first of the range at a place
-pub first-ranges_with : (firsts : List ℕ) (rows : List (Option ℕ)) (k : ℕ) (d : Range) (e : ℕ)
-    → length firsts ≡ length rows → k < length firsts → (get_or (ranges_with firsts rows) k d).first ≡ get_or firsts k e
-first-ranges_with [] rows k d e same low = absurd (omega arith)
-first-ranges_with (first ∷ firsts) [] k d e same low = absurd (omega (arith, same))
-first-ranges_with (first ∷ firsts) (row ∷ rows) zero d e same low = refl
-first-ranges_with (first ∷ firsts) (row ∷ rows) (suc k) d e same low =
-    first-ranges_with firsts rows k d e (omega (arith, same)) (omega arith)
-
--- and its row
-pub row-ranges_with : (firsts : List ℕ) (rows : List (Option ℕ)) (k : ℕ) (d : Range) (e : Option ℕ)
-    → length firsts ≡ length rows → k < length firsts → (get_or (ranges_with firsts rows) k d).row ≡ get_or rows k e
-row-ranges_with [] rows k d e same low = absurd (omega arith)
-row-ranges_with (first ∷ firsts) [] k d e same low = absurd (omega (arith, same))
-row-ranges_with (first ∷ firsts) (row ∷ rows) zero d e same low = refl
-row-ranges_with (first ∷ firsts) (row ∷ rows) (suc k) d e same low =
-    row-ranges_with firsts rows k d e (omega (arith, same)) (omega arith)
-
--- a first and a row more are a range more
-pub ranges_with-push : (firsts : List ℕ) (rows : List (Option ℕ)) (first : ℕ) (row : Option ℕ)
-    → length firsts ≡ length rows
-    → ranges_with (firsts ++ first ∷ []) (rows ++ row ∷ [])
-    ≡ ranges_with firsts rows ++ record { first = first; row = row } ∷ []
-ranges_with-push [] [] first row same = refl
-ranges_with-push [] (other ∷ rows) first row same = absurd (omega (arith, same))
-ranges_with-push (one ∷ firsts) [] first row same = absurd (omega (arith, same))
-ranges_with-push (one ∷ firsts) (other ∷ rows) first row same =
-    ap (λ (rest : List Range). record { first = one; row = other } ∷ rest)
-    (ranges_with-push firsts rows first row (omega (arith, same)))
+-- a first and a PID more are a range more
+zip-push : {A B : Type 0} (firsts : List A) (pids : List B) (first : A) (pid : B) → length firsts ≡ length pids
+    → zip (firsts ++ first ∷ []) (pids ++ pid ∷ []) ≡ zip firsts pids ++ (first, pid) ∷ []
+zip-push [] [] first pid same = refl
+zip-push [] (other ∷ pids) first pid same = absurd (omega (arith, same))
+zip-push (one ∷ firsts) [] first pid same = absurd (omega (arith, same))
+zip-push {A} {B} (one ∷ firsts) (other ∷ pids) first pid same =
+    ap (λ (rest : List (A × B)). (one, other) ∷ rest) (zip-push firsts pids first pid (omega (arith, same)))
 
 -- ---- a search among the firsts
 
--- the firsts of rising ranges don't fall
-pub firsts_rise : {A : Type 0} (value : A → ℕ) (firsts : List A) (rows : List (Option ℕ))
-    → length firsts ≡ length rows → AreRising (ranges_with (map value firsts) rows) → IsNonDecreasingBy value firsts
-firsts_rise value firsts rows same rising i j d order low =
-    let e : Range = record { first = 0; row = None } in
-    let long : length (map value firsts) ≡ length firsts = length-map firsts value in
-    let both : length (map value firsts) ≡ length rows = long ∙ same in
-    let at : (k : ℕ) → k < length firsts
-    → (get_or (ranges_with (map value firsts) rows) k e).first ≡ value (get_or firsts k d) =
-    λ k below_end. first-ranges_with (map value firsts) rows k e (value d) both (omega (arith, long, below_end))
+-- the firsts of ranges that don't fall don't either
+pub firsts_rise : {A : Type 0} (value : A → ℕ) (firsts : List A) (pids : List (Option (List ℕ)))
+    → length firsts ≡ length pids → IsNonDecreasingBy (λ range. range.0) (zip (map value firsts) pids)
+    → IsNonDecreasingBy value firsts
+firsts_rise value firsts pids same rising i j d order low =
+    let ranges = zip (map value firsts) pids in
+    let e : PidRange = (value d, None) in
+    let at : (k : ℕ) → k < length firsts → (get_or ranges k e).0 ≡ value (get_or firsts k d) =
+    λ k below_end. ap (λ range. range.0) (get_or-zip (map value firsts) pids k e
+    (omega (arith, length-map firsts value, below_end)) (omega (arith, same, below_end)))
     ∙ get_or-map value firsts k d (value d) below_end in
-    let rises = rising_places (ranges_with (map value firsts) rows) rising i j e order
-    (omega (arith, length-ranges_with (map value firsts) rows both, long, low)) in
+    let rises = rising i j e order (omega (arith, length-zipped value firsts pids same, low)) in
     omega (arith, rises, at i (omega arith), at j low)
 
 -- the part of the firsts from a place on, so long, is where those that are by the number end
@@ -107,58 +82,73 @@ ends_in_half value firsts number begun left middle false rising part some is ans
           omega (arith, at, past, rising (begun + left / 2) k d low high);
     }
 
--- where the first ones, as many as the count, are by the number, and the others behind it, the row is their last
-begun_before : {A : Type 0} (value : A → ℕ) (firsts : List A) (rows : List (Option ℕ)) (number count : ℕ) (z : A)
-    → length firsts ≡ length rows → count ≤ length firsts
+-- where so many firsts are by the number, and the others behind it, the PID is the one beside the last of them
+last_pid-begun : {A : Type 0} (value : A → ℕ) (number : ℕ) (pid : Option (List ℕ)) (firsts : List A)
+    (pids : List (Option (List ℕ))) (count : ℕ) → length firsts ≡ length pids → count ≤ length firsts
     → IsPartitionPoint (λ first. value first ≤ number) (λ first. number < value first) firsts count
-    → row_at (ranges_with (map value firsts) rows) number
-    ≡ last_row None (take count (ranges_with (map value firsts) rows))
-begun_before value firsts rows number count z same within parted =
-    let ranges = ranges_with (map value firsts) rows in
-    let long : length (map value firsts) ≡ length firsts = length-map firsts value in
-    let both : length (map value firsts) ≡ length rows = long ∙ same in
-    let many : length ranges ≡ length firsts = length-ranges_with (map value firsts) rows both ∙ long in
-    let at : (k : ℕ) (d : Range) → k < length firsts → (get_or ranges k d).first ≡ value (get_or firsts k z) =
-    λ k d low. first-ranges_with (map value firsts) rows k d (value z) both (omega (arith, long, low))
-    ∙ get_or-map value firsts k z (value z) low in
-    row_at-parted ranges number count (omega (arith, many, within))
-    (λ k d low. omega (arith, at k d (omega (arith, within)), parted.0 k z (omega arith) low))
-    (λ k d high low. omega (arith, at k d (omega (arith, many)), parted.1 k z high (omega (arith, many))))
-
-pub row_at-begun : {A : Type 0} (value : A → ℕ) (firsts : List A) (rows : List (Option ℕ)) (number count : ℕ)
-    → length firsts ≡ length rows → count ≤ length firsts
-    → IsPartitionPoint (λ first. value first ≤ number) (λ first. number < value first) firsts count
-    → row_at (ranges_with (map value firsts) rows) number
-    ≡ last_row None (take count (ranges_with (map value firsts) rows))
-unfolding row_at
-row_at-begun value [] rows number zero same within parted = refl
-row_at-begun value [] rows number (suc count) same within parted = absurd (omega arith)
-row_at-begun value (first ∷ rest) rows number count same within parted =
-    begun_before value (first ∷ rest) rows number count first same within parted
+    → last_pid pid (filter (λ range. nat_le range.0 number) (zip (map value firsts) pids))
+    ≡ get_or (pid ∷ pids) count None
+last_pid-begun value number pid [] pids zero same within parted = refl
+last_pid-begun value number pid [] pids (suc count) same within parted = absurd (omega (arith, within))
+last_pid-begun value number pid (first ∷ firsts) [] count same within parted = absurd (omega (arith, same))
+last_pid-begun value number pid (first ∷ firsts) (own ∷ pids) zero same within parted =
+    let past : number < value first = parted.1 zero first (omega arith) (omega arith) in
+    rw (lt-leb (value first) number past)
+    (last_pid-begun value number pid firsts pids zero (omega (arith, same)) (omega arith) (
+      AllWithin-none (λ first. value first ≤ number) firsts 0,
+      λ k d low high. parted.1 (suc k) d (omega arith) (omega (arith, high)),
+    ))
+last_pid-begun value number pid (first ∷ firsts) (own ∷ pids) (suc count) same within parted =
+    let by : value first ≤ number = parted.0 zero first (omega arith) (omega arith) in
+    rw (le-leb (value first) number by)
+    (last_pid-begun value number own firsts pids count (omega (arith, same)) (omega (arith, within)) (
+      λ k d low high. parted.0 (suc k) d (omega arith) (omega (arith, high)),
+      λ k d low high. parted.1 (suc k) d (omega (arith, low)) (omega (arith, high)),
+    ))
 
 -- the same in the words of the code
-pub row_found : {A : Type 0} (value : A → ℕ) (firsts searched : List A) (rows : List (Option ℕ)) (ranges : List Range)
-    (number count : ℕ) → searched ≡ firsts → ranges_with (map value firsts) rows ≡ ranges → length firsts ≡ length rows
-    → count ≤ length searched
+pub pid_at-begun : {A : Type 0} (value : A → ℕ) (firsts searched : List A) (pids : List (Option (List ℕ)))
+    (ranges : List PidRange) (number count : ℕ) → searched ≡ firsts → zip (map value firsts) pids ≡ ranges
+    → length firsts ≡ length pids → count ≤ length searched
     → IsPartitionPoint (λ first. value first ≤ number) (λ first. number < value first) searched count
-    → last_row None (take count (ranges_with (map value firsts) rows)) ≡ row_at ranges number
-row_found value firsts searched rows ranges number count e is same within parted =
-    sym (row_at-begun value firsts rows number count same (subst (λ all. count ≤ length all) e within)
+    → get_or (None ∷ pids) count None ≡ pid_at ranges number
+unfolding pid_at
+pid_at-begun value firsts searched pids ranges number count e is same within parted =
+    sym (last_pid-begun value number None firsts pids count same (subst (λ all. count ≤ length all) e within)
     (subst (λ all. IsPartitionPoint (λ first. value first ≤ number) (λ first. number < value first) all count) e
     parted))
-    ∙ ap (λ all. row_at all number) is
+    ∙ ap (λ all. last_pid None (filter (λ range. nat_le range.0 number) all)) is
 
--- which is the row beside the last of them
-pub row_before : {A : Type 0} (value : A → ℕ) (firsts : List A) (rows : List (Option ℕ)) (last : ℕ) (e : Option ℕ)
-    → length firsts ≡ length rows → last < length firsts
-    → last_row None (take (last + 1) (ranges_with (map value firsts) rows)) ≡ get_or rows last e
-row_before value firsts rows last e same low =
-    let d : Range = record { first = 0; row = None } in
-    let long : length (map value firsts) ≡ length firsts = length-map firsts value in
-    let both : length (map value firsts) ≡ length rows = long ∙ same in
-    let many = length-ranges_with (map value firsts) rows both in
-    last_row-more (ranges_with (map value firsts) rows) last d (omega (arith, many, long, low))
-    ∙ row-ranges_with (map value firsts) rows last d e both (omega (arith, long, low))
+-- ---- ranges with the PIDs of their rows
+
+-- of rising ranges they don't fall
+pub with_pids_rise : (rows : List Row) (ranges : List Range) → AreRising ranges
+    → IsNonDecreasingBy (λ range. range.0) (map (with_pid rows) ranges)
+with_pids_rise rows [] rising i j d order low = absurd (omega arith)
+with_pids_rise rows (first ∷ rest) rising i j d order low =
+    let ranges = first ∷ rest in
+    let many : length (map (with_pid rows) ranges) ≡ length ranges = length-map ranges (with_pid rows) in
+    let at : (k : ℕ) → k < length ranges
+    → (get_or (map (with_pid rows) ranges) k d).0 ≡ (get_or ranges k first).first =
+    λ k below_end. ap (λ range. range.0) (get_or-map (with_pid rows) ranges k first d below_end) in
+    let rises = rising_places ranges rising i j first order (omega (arith, many, low)) in
+    omega (arith, rises, at i (omega (arith, many, low)), at j (omega (arith, many, low)))
+
+-- they give a number the PID of its row
+pub pid_at-with_pids : (rows : List Row) (ranges : List Range) (number : ℕ)
+    → pid_at (map (with_pid rows) ranges) number ≡ row_pid rows (row_at ranges number)
+unfolding pid_at row_at
+pid_at-with_pids rows ranges number = last_pid-with_pids None ranges
+  where
+    last_pid-with_pids : (row : Option ℕ) (ranges : List Range)
+        → last_pid (row_pid rows row) (filter (λ range. nat_le range.0 number) (map (with_pid rows) ranges))
+        ≡ row_pid rows (last_row row (filter (λ range. nat_le range.first number) ranges))
+    last_pid-with_pids row [] = refl
+    last_pid-with_pids row (range ∷ rest) =
+        ⊎_elim
+        (λ (past : number < range.first). rw (lt-leb range.first number past) (last_pid-with_pids row rest))
+        (λ (by : range.first ≤ number). rw (le-leb range.first number by) (last_pid-with_pids range.row rest))
+        (cases_lt number range.first)
 
 -- ---- ranges that begin below a number
 
@@ -213,51 +203,48 @@ row_at-below limit number ranges low = ap (last_row None) (begun_below limit num
 
 -- ---- making them, range by range
 
--- what firsts and rows keep of ranges is those that begin below the limit
-abbrev pub Keeps : {A : Type 0} → (A → ℕ) → ℕ → List Range → List A → List (Option ℕ) → Type 0
-Keeps value limit ranges firsts rows = (length firsts ≡ length rows)
-    × (ranges_with (map value firsts) rows ≡ below limit ranges)
+-- what firsts and PIDs keep of ranges is those that begin below the limit, with the PIDs of their rows
+abbrev pub Keeps : {A : Type 0} → (A → ℕ) → ℕ → List Row → List Range → List A → List (Option (List ℕ)) → Type 0
+Keeps value limit rows ranges firsts pids = (length firsts ≡ length pids)
+    × (zip (map value firsts) pids ≡ map (with_pid rows) (below limit ranges))
 
 -- with one more that begins below it
-pub keeps_more : {A : Type 0} (value : A → ℕ) (limit : ℕ) (ranges : List Range) (i : ℕ) (d e : Range)
-    (firsts next : List A) (first : A) (rows more : List (Option ℕ)) → i < length ranges
+pub keeps_more : {A : Type 0} (value : A → ℕ) (limit : ℕ) (rows : List Row) (ranges : List Range) (i : ℕ)
+    (d e : Range) (firsts next : List A) (first : A) (pids more : List (Option (List ℕ))) → i < length ranges
     → (value first ≡ (get_or ranges i d).first) × ((get_or ranges i d).first < limit)
-    → next ≡ firsts ++ first ∷ [] → more ≡ rows ++ (get_or ranges i e).row ∷ []
-    → Keeps value limit (take i ranges) firsts rows → Keeps value limit (take (i + 1) ranges) next more
-keeps_more value limit ranges i d e firsts next first rows more low own is_next is_more kept =
+    → next ≡ firsts ++ first ∷ [] → more ≡ pids ++ row_pid rows (get_or ranges i e).row ∷ []
+    → Keeps value limit rows (take i ranges) firsts pids → Keeps value limit rows (take (i + 1) ranges) next more
+keeps_more value limit rows ranges i d e firsts next first pids more low own is_next is_more kept =
     let range = get_or ranges i d in
-    let row : (get_or ranges i e).row ≡ range.row = ap (λ r. r.row) (get_or_default ranges i e d low) in
+    let pid = row_pid rows range.row in
     let begun : List ℕ = map value firsts in
-    let both : length begun ≡ length rows = length-map firsts value ∙ kept.0 in (
-      omega (
-        arith,
-        ap length is_next,
-        ap length is_more,
-        length_push firsts first,
-        length_push rows (get_or ranges i e).row,
-        kept.0,
-      ),
-      ap (λ all. ranges_with (map value all) more) is_next
-          ∙ (ap (ranges_with (map value (firsts ++ first ∷ []))) (is_more ∙ ap (λ last. rows ++ last ∷ []) row)
-          ∙ (ap (λ all. ranges_with all (rows ++ range.row ∷ [])) (map-append value firsts (first ∷ []))
-          ∙ (ranges_with-push begun rows (value first) range.row both
-          ∙ (ap (λ start. ranges_with begun rows ++ record { first = start; row = range.row } ∷ []) own.0
-          ∙ (ap (λ (all : List Range). all ++ range ∷ []) kept.1
-          ∙ sym (filter_more (λ range. nat_lt range.first limit) ranges i d low
-          ∙ ap (λ t. below limit (take i ranges) ++ cond t (range ∷ []) []) (lt-ltb range.first limit own.1))))))),
+    let both : length begun ≡ length pids = length-map firsts value ∙ kept.0 in
+    let added : more ≡ pids ++ pid ∷ [] =
+    is_more ∙ ap (λ (r : Range). pids ++ row_pid rows r.row ∷ []) (get_or_default ranges i e d low) in (
+      omega (arith, ap length is_next, ap length added, length_push firsts first, length_push pids pid, kept.0),
+      ap (λ all. zip (map value all) more) is_next
+          ∙ (ap (zip (map value (firsts ++ first ∷ []))) added
+          ∙ (ap (λ all. zip all (pids ++ pid ∷ [])) (map_push value firsts first)
+          ∙ (zip-push begun pids (value first) pid both
+          ∙ (ap (λ start. zip begun pids ++ (start, pid) ∷ []) own.0
+          ∙ (ap (λ (all : List PidRange). all ++ with_pid rows range ∷ []) kept.1
+          ∙ (sym (map_push (with_pid rows) (below limit (take i ranges)) range)
+          ∙ ap (map (with_pid rows)) (sym (filter_more (λ range. nat_lt range.first limit) ranges i d low
+          ∙ ap (λ t. below limit (take i ranges) ++ cond t (range ∷ []) [])
+          (lt-ltb range.first limit own.1))))))))),
     )
 
 -- and with one more that doesn't
-pub keeps_same : {A : Type 0} (value : A → ℕ) (limit : ℕ) (ranges : List Range) (i : ℕ) (d : Range)
-    (firsts next : List A) (rows more : List (Option ℕ)) → i < length ranges → limit ≤ (get_or ranges i d).first
-    → next ≡ firsts → more ≡ rows
-    → Keeps value limit (take i ranges) firsts rows → Keeps value limit (take (i + 1) ranges) next more
-keeps_same value limit ranges i d firsts next rows more low high is_next is_more kept =
+pub keeps_same : {A : Type 0} (value : A → ℕ) (limit : ℕ) (rows : List Row) (ranges : List Range) (i : ℕ) (d : Range)
+    (firsts next : List A) (pids more : List (Option (List ℕ))) → i < length ranges → limit ≤ (get_or ranges i d).first
+    → next ≡ firsts → more ≡ pids
+    → Keeps value limit rows (take i ranges) firsts pids → Keeps value limit rows (take (i + 1) ranges) next more
+keeps_same value limit rows ranges i d firsts next pids more low high is_next is_more kept =
     let range = get_or ranges i d in (
       ap length is_next ∙ (kept.0 ∙ sym (ap length is_more)),
-      ap (λ all. ranges_with (map value all) more) is_next
-          ∙ (ap (ranges_with (map value firsts)) is_more ∙ (kept.1
-          ∙ sym (filter_more (λ range. nat_lt range.first limit) ranges i d low
+      ap (λ all. zip (map value all) more) is_next
+          ∙ (ap (zip (map value firsts)) is_more ∙ (kept.1
+          ∙ ap (map (with_pid rows)) (sym (filter_more (λ range. nat_lt range.first limit) ranges i d low
           ∙ (ap (λ t. below limit (take i ranges) ++ cond t (range ∷ []) []) (le-ltb range.first limit high)
-          ∙ append-nil (below limit (take i ranges)))))),
+          ∙ append-nil (below limit (take i ranges))))))),
     )

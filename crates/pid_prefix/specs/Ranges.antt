@@ -17,12 +17,6 @@ last_row row (range ∷ rest) = last_row range.row rest
 unfoldable pub row_at : List Range → ℕ → Option ℕ
 row_at ranges number = last_row None (filter (λ range. nat_le range.first number) ranges)
 
--- the ranges with these firsts and these rows, one by one
-abbrev pub ranges_with : List ℕ → List (Option ℕ) → List Range
-ranges_with [] rows = []
-ranges_with (first ∷ firsts) [] = []
-ranges_with (first ∷ firsts) (row ∷ rows) = record { first = first; row = row } ∷ ranges_with firsts rows
-
 -- those that begin below a number
 abbrev pub below : ℕ → List Range → List Range
 below limit ranges = filter (λ range. nat_lt range.first limit) ranges

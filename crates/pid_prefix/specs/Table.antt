@@ -1,5 +1,5 @@
 -- What a table of ranges knows of the rows that it was built from.
-use Rattle.std.specs.Prelude.{◌≡◌, ◌+◌, ◌*◌, ◌^◌, ◌<◌, ◌≤◌, ℕ, List, length, Option, Some, None, slice_index_or}
+use Rattle.std.specs.Prelude.{◌≡◌, ◌+◌, ◌*◌, ◌^◌, ◌<◌, ◌≤◌, ℕ, List, length, map, Option, Some, None, slice_index_or}
 use Rattle.std.specs.List.{All, Contains}
 use Rattle.alto_addr.specs.declared.addr.Addr.{Addr}
 use Rattle.alto_addr.specs.declared.addr.Addr.TheVariants as addr
@@ -10,6 +10,7 @@ use Rattle.pid_prefix.specs.declared.range.Range.{Range}
 use Rattle.pid_prefix.specs.Families.{address_of, leading_bits}
 use Rattle.pid_prefix.specs.Longest.{Row, AreDistinct, IsHeldBy}
 use Rattle.pid_prefix.specs.Ranges.{AreRising, below, row_at}
+use Rattle.pid_prefix.specs.PidRanges.{PidRange, pid_at, with_pid}
 
 -- the row stands at the place
 abbrev pub StandsAt : List Row → ℕ → Row → Type 0
@@ -53,12 +54,12 @@ pub record IsTable (rows : List Row) (of_v4 of_v6 : List Range) : Type 0 where
   pub v4 : AreRangesOf families.V4 rows of_v4
   pub v6 : AreRangesOf families.V6 rows of_v6
 
--- what the ranges of the address's family give it
-abbrev pub place_of : List Range → List Range → Addr → Option ℕ
-place_of of_v4 of_v6 (addr.V4 number) = row_at of_v4 number
-place_of of_v4 of_v6 (addr.V6 number) = row_at of_v6 number
+-- the PID that the ranges of the address's family give it
+abbrev pub pid_in : List PidRange → List PidRange → Addr → Option (List ℕ)
+pid_in of_v4 of_v6 (addr.V4 number) = pid_at of_v4 number
+pid_in of_v4 of_v6 (addr.V6 number) = pid_at of_v6 number
 
--- the ranges of both families in a table, without those that begin past the family's addresses
-abbrev pub AreNarrowed : List Row → List Range → List Range → Type 0
+-- the ranges of both families in a table with their PIDs, without those that begin past the family's addresses
+abbrev pub AreNarrowed : List Row → List PidRange → List PidRange → Type 0
 AreNarrowed rows of_v4 of_v6 = (all_v4 all_v6 : List Range) × IsTable rows all_v4 all_v6
-    × (of_v4 ≡ below (2 ^ 32) all_v4) × (of_v6 ≡ below (2 ^ 128) all_v6)
+    × (of_v4 ≡ map (with_pid rows) (below (2 ^ 32) all_v4)) × (of_v6 ≡ map (with_pid rows) (below (2 ^ 128) all_v6))

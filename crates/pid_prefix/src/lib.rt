@@ -16,7 +16,6 @@ mod laws;
 mod number;
 mod range;
 mod ranges;
-mod row_place;
 mod scan;
 mod sought;
 mod steps;

@@ -1,67 +1,85 @@
-ghost use Rattle.std.specs.Prelude.{◌≡◌, ◌+◌, ◌-◌, ◌*◌, ◌^◌, ◌<◌, ◌≤◌, IfOk, length};
+ghost use Rattle.std.specs.Prelude.{◌≡◌, ◌+◌, ◌-◌, ◌*◌, ◌^◌, ◌<◌, ◌≤◌, IfOk, length, map, option_copied};
 ghost use Rattle.std.specs.List.Sorted.{IsNonDecreasingBy, IsPartitionPoint};
-ghost use Rattle.pid_prefix.specs.Ranges.{AreRising, below};
-ghost use Rattle.pid_prefix.specs.Ranges as spec;
+ghost use Rattle.pid_prefix.specs.Ranges.{below};
+ghost use Rattle.pid_prefix.specs.PidRanges.{with_pid};
+ghost use Rattle.pid_prefix.specs.PidRanges as spec;
 
 use crate::number::Number;
 use crate::range::Range;
-use crate::row_place::RowPlace;
 use crate::sought::Sought;
 use crate::steps::Steps;
+use alto_addr::Prefix;
+use alto_names::PidName;
 use std::alloc::{AllocError, Global};
 use std::hint::select_unpredictable;
 use std::marker::Model;
 use std::sync::ledger::Ledger;
 
-/// Ranges, kept for a search: it reads their firsts alone, which stand apart from the rows, in as few bytes as the
-/// family's addresses take; a row takes four. A contract sees the list of ranges.
+/// Ranges with their PIDs, kept for a search: it reads their firsts alone, which stand apart from the PIDs, in as few
+/// bytes as the family's addresses take; and then one PID. A contract sees the list of firsts, each with its PID.
 #[derive(Drop)]
 pub(crate) struct Ranges<N: Number> {
     firsts: Vec<N>,
-    rows: Vec<RowPlace>,
+    pids: Vec<Option<PidName>>,
 }
+
+const _: () = prove!(size_of::<Option<PidName>>() == 16);
 
 impl<N: Number> Model for Ranges<N> {
     ghost use Rattle.std.specs.Prelude.{◌≡◌, List, length, map};
-    ghost use Rattle.pid_prefix.specs.declared.range.Range.{Range};
-    ghost use Rattle.pid_prefix.specs.Ranges.{ranges_with};
+    ghost use Rattle.std.specs.List.{zip};
+    ghost use Rattle.pid_prefix.specs.PidRanges.{PidRange};
 
-    ghost Value = { List Range };
+    ghost Value = { List PidRange };
 
-    ghost view = { λ ranges. ranges_with (map N.value ranges.firsts.items) ranges.rows.items };
+    ghost view = { λ ranges. zip (map N.value ranges.firsts.items) ranges.pids.items };
 
-    ghost invariant = { λ ranges. length ranges.firsts.items ≡ length ranges.rows.items };
+    ghost invariant = { λ ranges. length ranges.firsts.items ≡ length ranges.pids.items };
 }
 
 impl<N: Number> Ranges<N> {
-    /// The ranges without those that begin past the family's addresses, which give no address its row.
-    pub(crate) fn narrowed(alloc: Global, ranges: &[Range]) -> Result<Ranges<N>, AllocError>
-        ensures { IfOk result (λ kept. kept ≡ below N.limit ranges.now) }
+    /// The ranges with the PIDs of their rows, shared, without those that begin past the family's addresses.
+    pub(crate) fn narrowed(
+        alloc: Global,
+        ranges: &[Range],
+        rows: &[(Prefix, PidName)],
+    ) -> Result<Ranges<N>, AllocError>
+        ensures { IfOk result (λ kept. kept ≡ map (with_pid rows.now) (below N.limit ranges.now)) }
     {
         let mut firsts = Vec::with_capacity(alloc, ranges.len())?;
-        let mut rows = Vec::with_capacity(alloc, ranges.len())?;
+        let mut pids = Vec::with_capacity(alloc, ranges.len())?;
         for range in ranges {
             if let Some(first) = N::narrowed(range.first) {
                 firsts.push(first)?;
-                rows.push(RowPlace::new(range.row)?)?;
+                pids.push(row_pid(rows, range.row)?)?;
             }
         }
-        Ok(Ranges { firsts, rows })
+        Ok(Ranges { firsts, pids })
     }
 
-    /// The row of the last range that begins at or before the number.
-    pub(crate) fn row_at<L: Ledger>(
+    /// The PID of the last range that begins at or before the number.
+    pub(crate) fn pid_at<L: Ledger>(
         &self,
         sought: &Sought<N>,
         steps: &mut Steps<L>,
-    ) -> Option<usize>
-        requires { AreRising self.now }
-        ensures row { result ≡ spec.row_at self.now sought.now }
+    ) -> Option<&PidName>
+        requires { IsNonDecreasingBy (λ range. range.0) self.now }
+        ensures pid { option_copied result ≡ spec.pid_at self.now sought.now }
         ensures counted { steps.old ≤ steps.new }
         ensures cost { 2 ^ (steps.new - steps.old) ≤ 2 * length self.now + 1 }
     {
         let last = count_begun(&self.firsts, sought, steps).checked_sub(1)?;
-        self.rows[last].get()
+        self.pids[last].as_ref()
+    }
+}
+
+/// The PID of the row at the place, shared, if there is one.
+fn row_pid(rows: &[(Prefix, PidName)], place: Option<usize>) -> Result<Option<PidName>, AllocError>
+    ensures { IfOk result (λ pid. pid ≡ spec.row_pid rows.now place) }
+{
+    match place.and_then(|place| rows.get(place)) {
+        Some(row) => Ok(Some(row.1.clone()?)),
+        None => Ok(None),
     }
 }
 

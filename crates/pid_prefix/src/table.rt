@@ -1,8 +1,8 @@
-ghost use Rattle.std.specs.Prelude.{◌≡◌, ◌+◌, ◌-◌, ◌*◌, ◌^◌, ◌<◌, ◌≤◌, ℕ, IfOk, length, map, option_copied};
+ghost use Rattle.std.specs.Prelude.{◌≡◌, ◌+◌, ◌-◌, ◌*◌, ◌^◌, ◌<◌, ◌≤◌, ℕ, IfOk, length, option_copied};
+ghost use Rattle.std.specs.List.Sorted.{IsNonDecreasingBy};
 ghost use Rattle.alto_addr.specs.Bits.{HasBits};
 ghost use Rattle.pid_prefix.specs.Longest.{AreDistinct, longest_prefix};
-ghost use Rattle.pid_prefix.specs.Ranges.{AreRising};
-ghost use Rattle.pid_prefix.specs.Table.{place_of};
+ghost use Rattle.pid_prefix.specs.Table as spec;
 
 use crate::blocks::ranges_of;
 use crate::family::Family;
@@ -17,13 +17,12 @@ use std::sync::ledger::{Blank, Ledger};
 
 /// Distinct prefixes with their PIDs, built for look-ups. A contract sees the list that it was built from.
 ///
-/// It keeps the list, 64 bytes for each prefix, and its PIDs once more, 8 bytes each, so that those which look-ups give
-/// lie together; and 2 ranges for a prefix at most: of 8 bytes each in IPv4, of which a search reads 4, and of 20 in
-/// IPv6, of which it reads 16. Names are shared.
+/// It keeps the list, 64 bytes for each prefix, and 2 ranges for a prefix at most: of 20 bytes each in IPv4, of which a
+/// search reads 4, and of 32 in IPv6, of which it reads 16. The other 16 are the range's PID or none, so that a look-up
+/// reads nothing between its search and the PID. Names are shared.
 #[derive(Drop)]
 pub struct RangeTable {
     rows: Vec<(Prefix, PidName)>,
-    pids: Vec<PidName>,
     v4: Ranges<u32>,
     v6: Ranges<u128>,
 }
@@ -31,7 +30,7 @@ pub struct RangeTable {
 const _: () = prove!(size_of::<(Prefix, PidName)>() == 64);
 
 impl Model for RangeTable {
-    ghost use Rattle.std.specs.Prelude.{◌≡◌, List, map};
+    ghost use Rattle.std.specs.Prelude.{List};
     ghost use Rattle.pid_prefix.specs.Longest.{Row};
     ghost use Rattle.pid_prefix.specs.Table.{AreNarrowed};
 
@@ -39,8 +38,7 @@ impl Model for RangeTable {
 
     ghost view = { λ table. table.rows.items };
 
-    ghost invariant = { λ table. AreNarrowed table.rows.items table.v4 table.v6
-        × (table.pids.items ≡ map (λ row. row.1) table.rows.items) };
+    ghost invariant = { λ table. AreNarrowed table.rows.items table.v4 table.v6 };
 }
 
 impl RangeTable {
@@ -50,11 +48,10 @@ impl RangeTable {
         requires { AreDistinct prefixes.now }
         ensures { IfOk result (λ table. table ≡ prefixes.now) }
     {
-        let v4 = Ranges::narrowed(alloc, &ranges_of(alloc, Family::V4, prefixes)?)?;
-        let v6 = Ranges::narrowed(alloc, &ranges_of(alloc, Family::V6, prefixes)?)?;
+        let v4 = Ranges::narrowed(alloc, &ranges_of(alloc, Family::V4, prefixes)?, prefixes)?;
+        let v6 = Ranges::narrowed(alloc, &ranges_of(alloc, Family::V6, prefixes)?, prefixes)?;
         let rows = copied(alloc, prefixes)?;
-        let pids = pids_of(alloc, prefixes)?;
-        Ok(RangeTable { rows, pids, v4, v6 })
+        Ok(RangeTable { rows, v4, v6 })
     }
 
     /// The PID of the longest prefix that holds the address; `None` where none holds it. A step is one comparison of
@@ -64,8 +61,7 @@ impl RangeTable {
         ensures counted { steps.old ≤ steps.new }
         ensures cost { 2 ^ (steps.new - steps.old) ≤ 4 * length self.now + 4 }
     {
-        let place = place_in(&self.v4, &self.v6, addr, steps)?;
-        Some(&self.pids[place])
+        pid_in(&self.v4, &self.v6, addr, steps)
     }
 
     /// The same as `find`, for a caller that counts no steps.
@@ -87,24 +83,24 @@ impl RangeTable {
     }
 }
 
-/// What the ranges of the address's family give it.
-fn place_in<L: Ledger>(
-    v4: &Ranges<u32>,
-    v6: &Ranges<u128>,
+/// The PID that the ranges of the address's family give it.
+fn pid_in<'a, L: Ledger>(
+    v4: &'a Ranges<u32>,
+    v6: &'a Ranges<u128>,
     addr: &Addr,
     steps: &mut Steps<L>,
-) -> Option<usize>
-    requires v4 { AreRising v4.now }
-    requires v6 { AreRising v6.now }
-    ensures place { result ≡ place_of v4.now v6.now addr.now }
+) -> Option<&'a PidName>
+    requires v4 { IsNonDecreasingBy (λ range. range.0) v4.now }
+    requires v6 { IsNonDecreasingBy (λ range. range.0) v6.now }
+    ensures pid { option_copied result ≡ spec.pid_in v4.now v6.now addr.now }
     ensures fits { HasBits addr.now }
     ensures counted { steps.old ≤ steps.new }
     ensures cost { (most : ℕ) → length v4.now ≤ most → length v6.now ≤ most
         → 2 ^ (steps.new - steps.old) ≤ 2 * most + 1 }
 {
     match *addr {
-        Addr::V4(number) => v4.row_at(&Sought::new(number), steps),
-        Addr::V6(number) => v6.row_at(&Sought::new(number), steps),
+        Addr::V4(number) => v4.pid_at(&Sought::new(number), steps),
+        Addr::V6(number) => v6.pid_at(&Sought::new(number), steps),
     }
 }
 
@@ -117,15 +113,4 @@ fn copied(alloc: Global, rows: &[(Prefix, PidName)]) -> Result<Vec<(Prefix, PidN
         copy.push((row.0, row.1.clone()?))?;
     }
     Ok(copy)
-}
-
-/// The PIDs of rows, shared.
-fn pids_of(alloc: Global, rows: &[(Prefix, PidName)]) -> Result<Vec<PidName>, AllocError>
-    ensures { IfOk result (λ pids. pids.items ≡ map (λ row. row.1) rows.now) }
-{
-    let mut pids = Vec::with_capacity(alloc, rows.len())?;
-    for row in rows {
-        pids.push(row.1.clone()?)?;
-    }
-    Ok(pids)
 }

@@ -1,21 +1,21 @@
 use Rattle.std.proofs.Common.{[], ◌∷◌, ◌++◌, ap, ◌∙◌}
 use Rattle.pid_prefix.proofs.RangesLemmas.{keeps_more, keeps_same}
 use Rattle.pid_prefix.proofs.ranges.Ranges.narrowed.Goals as goal
-use Rattle.pid_prefix.proofs.ranges.Ranges.narrowed.Goals.{in-Some+in_ok-push+in_ok-new+in_ok-push-2, in_default}
+use Rattle.pid_prefix.proofs.ranges.Ranges.narrowed.Goals.{in-Some+in_ok-push+in_ok-row_pid+in_ok-push-2, in_default}
 
 pub loop-range-preserved : goal.loop-range-preserved
 loop-range-preserved g c =
     elim c.match-narrowed.branch [
-      | in-Some+in_ok-push+in_ok-new+in_ok-push-2 w ↦
-          keeps_more g.N.Number.value g.N.Number.limit c.args.ranges.now c.loop-range.range-index _ _
+      | in-Some+in_ok-push+in_ok-row_pid+in_ok-push-2 w ↦
+          keeps_more g.N.Number.value g.N.Number.limit c.args.rows.now c.args.ranges.now c.loop-range.range-index _ _
           c.loop-range.firsts.items c.match-narrowed.firsts.items w.in-Some.first
-          c.loop-range.rows.items c.match-narrowed.rows.items c.loop-range-test.true w.in-Some.ensures.some
+          c.loop-range.pids.items c.match-narrowed.pids.items c.loop-range-test.true w.in-Some.ensures.some
           (ap (λ v. v.items) w.firsts-is ∙ w.in_ok-push.ensures.items)
-          (ap (λ v. v.items) w.rows-is ∙ (w.in_ok-push-2.ensures.items
-          ∙ ap (λ row. c.loop-range.rows.items ++ row ∷ []) w.in_ok-new.ensures)) c.loop-range.invariant
+          (ap (λ v. v.items) w.pids-is ∙ (w.in_ok-push-2.ensures.items
+          ∙ ap (λ pid. c.loop-range.pids.items ++ pid ∷ []) w.in_ok-row_pid.ensures)) c.loop-range.invariant
       | in_default w ↦
-          keeps_same g.N.Number.value g.N.Number.limit c.args.ranges.now c.loop-range.range-index _
+          keeps_same g.N.Number.value g.N.Number.limit c.args.rows.now c.args.ranges.now c.loop-range.range-index _
           c.loop-range.firsts.items c.match-narrowed.firsts.items
-          c.loop-range.rows.items c.match-narrowed.rows.items c.loop-range-test.true w.in_default.ensures.none
-          (ap (λ v. v.items) w.firsts-is) (ap (λ v. v.items) w.rows-is) c.loop-range.invariant
+          c.loop-range.pids.items c.match-narrowed.pids.items c.loop-range-test.true w.in_default.ensures.none
+          (ap (λ v. v.items) w.firsts-is) (ap (λ v. v.items) w.pids-is) c.loop-range.invariant
     ]
