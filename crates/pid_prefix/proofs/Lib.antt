@@ -7,3 +7,4 @@ pub mod OrderLemmas
 pub mod TableLemmas
 pub mod FindLemmas
 pub mod RangesLemmas
+pub mod PidsLemmas

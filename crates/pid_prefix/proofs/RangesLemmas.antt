@@ -26,7 +26,7 @@ length-zipped value firsts pids same =
     ∙ (ap length (firsts-zip (map value firsts) pids long) ∙ length-map firsts value)
 
 -- a first and a PID more are a range more
-zip-push : {A B : Type 0} (firsts : List A) (pids : List B) (first : A) (pid : B) → length firsts ≡ length pids
+pub zip-push : {A B : Type 0} (firsts : List A) (pids : List B) (first : A) (pid : B) → length firsts ≡ length pids
     → zip (firsts ++ first ∷ []) (pids ++ pid ∷ []) ≡ zip firsts pids ++ (first, pid) ∷ []
 zip-push [] [] first pid same = refl
 zip-push [] (other ∷ pids) first pid same = absurd (omega (arith, same))

@@ -1,5 +1,6 @@
 pub mod Longest
 pub mod Ranges
+pub mod Pids
 pub mod PidRanges
 pub mod Bits
 pub mod Blocks

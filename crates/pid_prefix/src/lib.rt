@@ -14,6 +14,7 @@ mod blocks;
 mod family;
 mod laws;
 mod number;
+mod pids;
 mod range;
 mod ranges;
 mod scan;

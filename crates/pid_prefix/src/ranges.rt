@@ -5,6 +5,7 @@ ghost use Rattle.pid_prefix.specs.PidRanges.{with_pid};
 ghost use Rattle.pid_prefix.specs.PidRanges as spec;
 
 use crate::number::Number;
+use crate::pids::Pids;
 use crate::range::Range;
 use crate::sought::Sought;
 use crate::steps::Steps;
@@ -20,10 +21,8 @@ use std::sync::ledger::Ledger;
 #[derive(Drop)]
 pub(crate) struct Ranges<N: Number> {
     firsts: Vec<N>,
-    pids: Vec<Option<PidName>>,
+    pids: Pids,
 }
-
-const _: () = prove!(size_of::<Option<PidName>>() == 16);
 
 impl<N: Number> Model for Ranges<N> {
     ghost use Rattle.std.specs.Prelude.{◌≡◌, List, length, map};
@@ -32,9 +31,9 @@ impl<N: Number> Model for Ranges<N> {
 
     ghost Value = { List PidRange };
 
-    ghost view = { λ ranges. zip (map N.value ranges.firsts.items) ranges.pids.items };
+    ghost view = { λ ranges. zip (map N.value ranges.firsts.items) ranges.pids };
 
-    ghost invariant = { λ ranges. length ranges.firsts.items ≡ length ranges.pids.items };
+    ghost invariant = { λ ranges. length ranges.firsts.items ≡ length ranges.pids };
 }
 
 impl<N: Number> Ranges<N> {
@@ -54,6 +53,7 @@ impl<N: Number> Ranges<N> {
                 pids.push(row_pid(rows, range.row)?)?;
             }
         }
+        let pids = Pids::packed(alloc, &pids)?;
         Ok(Ranges { firsts, pids })
     }
 
@@ -69,7 +69,7 @@ impl<N: Number> Ranges<N> {
         ensures cost { 2 ^ (steps.new - steps.old) ≤ 2 * length self.now + 1 }
     {
         let last = count_begun(&self.firsts, sought, steps).checked_sub(1)?;
-        self.pids[last].as_ref()
+        self.pids.at(last)
     }
 }
 

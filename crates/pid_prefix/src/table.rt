@@ -17,8 +17,8 @@ use std::sync::ledger::{Blank, Ledger};
 
 /// Distinct prefixes with their PIDs, built for look-ups. A contract sees the list that it was built from.
 ///
-/// It keeps the list, 64 bytes for each prefix, and 2 ranges for a prefix at most: of 20 bytes each in IPv4, of which a
-/// search reads 4, and of 32 in IPv6, of which it reads 16. The other 16 are the range's PID or none, so that a look-up
+/// It keeps the list, 64 bytes for each prefix, and 2 ranges for a prefix at most: of 13 bytes each in IPv4, of which a
+/// search reads 4, and of 25 in IPv6, of which it reads 16. The other 9 are the range's PID or none, so that a look-up
 /// reads nothing between its search and the PID. Names are shared.
 #[derive(Drop)]
 pub struct RangeTable {

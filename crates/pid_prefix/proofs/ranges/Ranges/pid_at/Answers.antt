@@ -1,6 +1,5 @@
 use Rattle.std.proofs.Common.{◌≡◌, ◌-◌, ◌<◌, ◌≤◌, None, ◌∷◌, arith, ap, sym, ◌∙◌, subst, length, get_or, suc}
 use Rattle.std.proofs.Common.{option_copied}
-use Rattle.std.proofs.lemmas.List.{get_or_default}
 use Rattle.std.specs.List.Sorted.{IsNonDecreasingBy}
 use Rattle.pid_prefix.proofs.RangesLemmas.{firsts_rise, length-zipped, pid_at-begun}
 use Rattle.pid_prefix.proofs.ranges.Ranges.pid_at.Goals as goal
@@ -9,22 +8,22 @@ pub count_begun-requires : goal.count_begun-requires
 count_begun-requires g c =
     let t = c.self.inside in
     subst (IsNonDecreasingBy g.N.Number.value) (sym c.deref.ensures.value)
-    (firsts_rise g.N.Number.value t.firsts.items t.pids.items c.self.invariant
+    (firsts_rise g.N.Number.value t.firsts.items t.pids c.self.invariant
     (subst (IsNonDecreasingBy (λ range. range.0)) (sym c.self.view_is) c.requires))
 
 pub returns-in_err-last-clause-pid : goal.returns-in_err-last-clause-pid
 returns-in_err-last-clause-pid g c =
     let t = c.self.inside in
-    let found = pid_at-begun g.N.Number.value t.firsts.items c.deref.result.now t.pids.items c.args.self.now
+    let found = pid_at-begun g.N.Number.value t.firsts.items c.deref.result.now t.pids c.args.self.now
     c.args.sought.now c.count_begun.result c.deref.ensures.value c.self.view_is c.self.invariant
     c.count_begun.ensures.within c.count_begun.ensures.begun in
     let none : c.count_begun.result ≡ 0 = omega (arith, c.in_err-last.ensures) in
-    ap option_copied c.from_residual.ensures ∙ (sym (ap (λ at. get_or (None ∷ t.pids.items) at None) none) ∙ found)
+    ap option_copied c.from_residual.ensures ∙ (sym (ap (λ at. get_or (None ∷ t.pids) at None) none) ∙ found)
 
 pub returns-in_err-last-clause-cost : goal.returns-in_err-last-clause-cost
 returns-in_err-last-clause-cost g c =
     let t = c.self.inside in
-    let many = length-zipped g.N.Number.value t.firsts.items t.pids.items c.self.invariant in
+    let many = length-zipped g.N.Number.value t.firsts.items t.pids c.self.invariant in
     omega (arith, c.count_begun.ensures.cost, many, ap length c.deref.ensures.value, ap length c.self.view_is)
 
 pub returns-clause-pid : goal.returns-clause-pid
@@ -32,11 +31,11 @@ returns-clause-pid g c =
     let t = c.self.inside in
     let last = c.in_ok-last.last in
     let is : (1 ≤ c.count_begun.result) × (last ≡ c.count_begun.result - 1) = c.in_ok-last.ensures in
-    let found = pid_at-begun g.N.Number.value t.firsts.items c.deref.result.now t.pids.items c.args.self.now
+    let found = pid_at-begun g.N.Number.value t.firsts.items c.deref.result.now t.pids c.args.self.now
     c.args.sought.now c.count_begun.result c.deref.ensures.value c.self.view_is c.self.invariant
     c.count_begun.ensures.within c.count_begun.ensures.begun in
     let behind : c.count_begun.result ≡ suc last = omega (arith, is.0, is.1) in
-    let low : last < length t.pids.items = omega (
+    let low : last < length t.pids = omega (
       arith,
       is.0,
       is.1,
@@ -44,13 +43,10 @@ returns-clause-pid g c =
       ap length c.deref.ensures.value,
       c.self.invariant,
     ) in
-    c.as_ref.ensures.value
-    ∙ (c.index.ensures
-    ∙ (get_or_default t.pids.items last c.index.result.now None low
-    ∙ (ap (λ at. get_or (None ∷ t.pids.items) at None) (sym behind) ∙ found)))
+    c.at.ensures ∙ (ap (λ at. get_or (None ∷ t.pids) at None) (sym behind) ∙ found)
 
 pub returns-clause-cost : goal.returns-clause-cost
 returns-clause-cost g c =
     let t = c.self.inside in
-    let many = length-zipped g.N.Number.value t.firsts.items t.pids.items c.self.invariant in
+    let many = length-zipped g.N.Number.value t.firsts.items t.pids c.self.invariant in
     omega (arith, c.count_begun.ensures.cost, many, ap length c.deref.ensures.value, ap length c.self.view_is)
