@@ -1,5 +1,5 @@
 //! The costs in a metric between sources and destinations.
-ghost use Rattle.std.specs.Prelude.{◌≡◌, None, IfOk, OnOk, map, option_map, slice_get};
+ghost use Rattle.std.specs.Prelude.{◌≡◌, None, IfOk, OnOk, map, option_map};
 ghost use Rattle.std.specs.BTreeMap.{is_at};
 ghost use Rattle.std.specs.Map.{lookup};
 ghost use Rattle.alto_rows.specs.Order.{name_cmp};
@@ -55,7 +55,7 @@ fn costs_from(
         return no_costs(alloc, destinations);
     };
     places.find(from, destinations)?;
-    costs_at(alloc, from.costs(), places.places())
+    from.costs().at(alloc, places.places())
 }
 
 /// No cost, for each of these destinations.
@@ -67,24 +67,6 @@ fn no_costs(alloc: Global, destinations: &[PidName]) -> Result<Vec<Option<u64>>,
         costs.push(None)?;
     }
     Ok(costs)
-}
-
-/// The costs at places, `None` where there is none. No read waits for another, as it would where each were written to
-/// an answer first.
-fn costs_at(alloc: Global, costs: &[u64], places: &[usize]) -> Result<Vec<Option<u64>>, AllocError>
-    ensures { IfOk result (λ found. found.items ≡ map (slice_get costs.now) places.now) }
-{
-    let mut found = Vec::with_capacity(alloc, places.len())?;
-    for place in places {
-        found.push(cost_at(costs, *place))?;
-    }
-    Ok(found)
-}
-
-fn cost_at(costs: &[u64], place: usize) -> Option<u64>
-    ensures { result ≡ slice_get costs.now place }
-{
-    Some(*costs.get(place)?)
 }
 
 /// The costs from a source in a table, if there are any. One binary search.

@@ -10,19 +10,20 @@ ghost use Rattle.cost_tables.specs.Lists.{ArePlaces, IsSharedOrNew};
 ghost use Rattle.cost_tables.specs.Tables.{Name, cost_given, cost_to, costs_from};
 
 use crate::destinations::{Destinations, stands_at};
+use crate::numbers::Numbers;
 use alto_names::{Metric, NetName, PidName};
 use alto_rows::{Key, RowStore, Span, Value, Within, rows_in};
 use std::alloc::{AllocError, Global};
 use std::marker::Model;
 use std::sync::Arc;
 
-/// The costs in a metric from one source, by destination in byte order: 8 bytes each. Sources that have the same
+/// The costs in a metric from one source, by destination in byte order. Sources that have the same
 /// destinations share their list. A contract sees the source, the costs and the list.
 #[derive(Drop)]
 pub(crate) struct FromSource {
     source: PidName,
     list: Arc<Destinations>,
-    costs: Vec<u64>,
+    costs: Numbers,
 }
 
 impl Model for FromSource {
@@ -38,12 +39,12 @@ impl Model for FromSource {
     ghost view = { λ from. (
       from.source,
       record {
-        costs = zip (arc_value from.list).names from.costs.items;
+        costs = zip (arc_value from.list).names from.costs;
         list = arc_value from.list;
       },
     ) };
 
-    ghost invariant = { λ from. length from.costs.items ≡ length (arc_value from.list).names };
+    ghost invariant = { λ from. length from.costs ≡ length (arc_value from.list).names };
 }
 
 impl FromSource {
@@ -70,7 +71,7 @@ impl FromSource {
         Ok(FromSource {
             source: source.clone()?,
             list,
-            costs,
+            costs: Numbers::of(alloc, costs)?,
         })
     }
 
@@ -107,7 +108,7 @@ impl FromSource {
     }
 
     /// The costs, by destination in the order of the list.
-    pub(crate) fn costs(&self) -> &[u64]
+    pub(crate) fn costs(&self) -> &Numbers
         ensures costs { zip self.now.1.list.names result.now ≡ self.now.1.costs }
         ensures even { length result.now ≡ length self.now.1.list.names }
     {

@@ -13,6 +13,7 @@ mod costs_between;
 mod destinations;
 mod from_source;
 mod heads;
+mod numbers;
 mod places;
 mod sources;
 mod table;

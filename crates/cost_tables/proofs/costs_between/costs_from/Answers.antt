@@ -38,10 +38,10 @@ returns-clause-costs c =
     places_of sources test from c.find.new.self.number dsts c.find.new.self.places placed found
     c.in_ok-find.ensures.found in
     let costs = c.costs.result.now in
-    IfOk-weaker c.costs_at.result _ _
+    IfOk-weaker c.at.result _ _
     (λ all is. is
     ∙ (ap (map (slice_get costs)) c.places.ensures
     ∙ (right costs c.costs.ensures.even
     ∙ (ap (λ told. map (cost_to told) dsts) c.costs.ensures.costs
     ∙ told_found sources src from dsts found))))
-    c.costs_at.ensures
+    c.at.ensures

@@ -1,0 +1,113 @@
+//! Numbers in as few bytes as they fit.
+ghost use Rattle.std.specs.Prelude.{◌≡◌, IfOk, IfSome, length, map, nat_eq, slice_get};
+
+use std::alloc::{AllocError, Global};
+use std::marker::Model;
+
+/// Numbers, in 4 bytes each where all of them fit, else in 8. A contract sees the numbers.
+#[derive(Drop)]
+pub(crate) struct Numbers {
+    kept: Kept,
+}
+
+#[derive(Drop)]
+enum Kept {
+    Narrow(Vec<u32>),
+    Wide(Vec<u64>),
+}
+
+impl Model for Numbers {
+    ghost use Rattle.std.specs.Prelude.{ℕ, List};
+    ghost use Rattle.cost_tables.specs.Numbers.{kept_in};
+
+    ghost Value = { List ℕ };
+
+    ghost view = { λ numbers. kept_in numbers.kept };
+}
+
+impl Numbers {
+    /// These. One pass over them.
+    pub(crate) fn of(alloc: Global, numbers: Vec<u64>) -> Result<Numbers, AllocError>
+        ensures { IfOk result (λ kept. kept ≡ numbers.items) }
+    {
+        match narrowed(alloc, &numbers)? {
+            Some(narrow) => Ok(Numbers {
+                kept: Kept::Narrow(narrow),
+            }),
+            None => Ok(Numbers {
+                kept: Kept::Wide(numbers),
+            }),
+        }
+    }
+
+    /// Whether there are none.
+    pub(crate) fn is_empty(&self) -> bool
+        ensures { result ≡ nat_eq (length self.now) 0 }
+    {
+        match &self.kept {
+            Kept::Narrow(numbers) => numbers.is_empty(),
+            Kept::Wide(numbers) => numbers.is_empty(),
+        }
+    }
+
+    /// Those at places, `None` where there is none. No read waits for another, as it would where each were written to
+    /// an answer first.
+    pub(crate) fn at(&self, alloc: Global, places: &[usize]) -> Result<Vec<Option<u64>>, AllocError>
+        ensures { IfOk result (λ found. found.items ≡ map (slice_get self.now) places.now) }
+    {
+        match &self.kept {
+            Kept::Narrow(numbers) => narrow_at(alloc, numbers, places),
+            Kept::Wide(numbers) => wide_at(alloc, numbers, places),
+        }
+    }
+}
+
+/// The numbers in 4 bytes each, where all of them fit.
+fn narrowed(alloc: Global, numbers: &[u64]) -> Result<Option<Vec<u32>>, AllocError>
+    ensures { IfOk result (λ narrow. IfSome narrow (λ narrow. narrow.items ≡ numbers.now)) }
+{
+    let mut narrow = Vec::with_capacity(alloc, numbers.len())?;
+    for number in numbers {
+        let Ok(number) = u32::try_from(*number) else {
+            return Ok(None);
+        };
+        narrow.push(number)?;
+    }
+    Ok(Some(narrow))
+}
+
+fn narrow_at(
+    alloc: Global,
+    numbers: &[u32],
+    places: &[usize],
+) -> Result<Vec<Option<u64>>, AllocError>
+    ensures { IfOk result (λ found. found.items ≡ map (slice_get numbers.now) places.now) }
+{
+    let mut found = Vec::with_capacity(alloc, places.len())?;
+    for place in places {
+        found.push(narrow_number(numbers, *place))?;
+    }
+    Ok(found)
+}
+
+fn narrow_number(numbers: &[u32], place: usize) -> Option<u64>
+    ensures { result ≡ slice_get numbers.now place }
+{
+    Some(u64::from(*numbers.get(place)?))
+}
+
+fn wide_at(alloc: Global, numbers: &[u64], places: &[usize]) -> Result<Vec<Option<u64>>, AllocError>
+    ensures { IfOk result (λ found. found.items ≡ map (slice_get numbers.now) places.now) }
+{
+    let mut found = Vec::with_capacity(alloc, places.len())?;
+    for place in places {
+        found.push(wide_number(numbers, *place))?;
+    }
+    Ok(found)
+}
+
+fn wide_number(numbers: &[u64], place: usize) -> Option<u64>
+    ensures { result ≡ slice_get numbers.now place }
+{
+    Some(*numbers.get(place)?)
+}
