@@ -2,14 +2,14 @@
 use Rattle.std.proofs.Common.{◌≡◌, ◌∙◌, ◌+◌, ◌<◌, ◌≤◌, ℕ, zero, suc, refl, ap, sym, append_assoc, arith, drop, get_or}
 use Rattle.std.proofs.Common.{inl, inr, length}
 use Rattle.std.proofs.lemmas.Bool.Decides.{nat_tests}
-use Rattle.std.proofs.lemmas.List.{drop_all, get_or-map}
+use Rattle.std.proofs.lemmas.List.{drop_all, get_or-map, get_or_default}
 use Rattle.std.proofs.lemmas.List.FromFn.{get_or-map-range_with_len, length-map-range_with_len}
 use Rattle.std.proofs.lemmas.Option.{slice_get_cases, slice_get_past, unwrap_or-slice_get}
 use Rattle.std.proofs.lemmas.Simd.{map-map}
 use Rattle.std.specs.Prelude.{Bool, true, false, ◌&&◌, ◌⊎◌, nat_lt, List, [], ◌∷◌, ◌++◌, Option, Some, None, is_some}
 use Rattle.std.specs.Prelude.{map, option_map}
 use Rattle.std.specs.Prelude.{slice_get, unwrap_or}
-use Rattle.std.specs.List.{list_any}
+use Rattle.std.specs.List.{list_any, range_with_len}
 use Rattle.alto_rows.specs.Rows.{Rows}
 use Rattle.alto_maps.specs.Shape.{Name}
 use Rattle.cost_rule.specs.declared.constraint.Constraint.{Constraint}
@@ -20,14 +20,16 @@ use Rattle.cost_filters.specs.declared.columns.Column.{Column}
 use Rattle.cost_filters.specs.declared.columns.Scale.{Scale}
 use Rattle.cost_filters.specs.declared.columns.Scale.TheVariants as scale
 use Rattle.cost_filters.specs.declared.pairs_between.Shown.{Shown}
+use Rattle.cost_filters.specs.declared.pairs_between.Shown.TheVariants as shown_as
 use Rattle.cost_filters.specs.declared.types.CostType.{CostType}
-use Rattle.cost_filters.specs.Between.{AreShown, Costs, Found, column_between, columns_at, flags_between, flags_from}
-use Rattle.cost_filters.specs.Between.{flag_at, is_flagged, pairs_at, row_shown, rows_shown, tested_between}
+use Rattle.cost_filters.specs.Between.{AreShown, Costs, Found, column_between, columns_at, costs_as, flags_between}
+use Rattle.cost_filters.specs.Between.{flags_from}
+use Rattle.cost_filters.specs.Between.{flag_at, is_flagged, one_cost, pairs_at, row_shown, rows_shown, tested_between}
 use Rattle.cost_filters.specs.Between.{told_between}
 use Rattle.cost_filters.specs.Columns.{columns_of, scaled}
 use Rattle.cost_filters.specs.Pairs.{PairsData, Table, cost_shown, costs_at, has_cost, if_there, is_shown}
 use Rattle.cost_filters.specs.Pairs.{one_is_empty, pair_costs, tested_from, told_from}
-use Rattle.cost_filters.proofs.PairsLemmas.{each_place, pair_at, zero_more}
+use Rattle.cost_filters.proofs.PairsLemmas.{all_numerical, each_place, pair_at, zero_more}
 
 -- ---- one column
 
@@ -256,3 +258,64 @@ one_any (None ∷ row) zero is = cc
 one_any (Some costs ∷ row) zero is = refl
 one_any (None ∷ row) (suc at) is = one_any row at is
 one_any (Some costs ∷ row) (suc at) is = refl
+
+-- ---- one column
+
+-- the pair that one cost makes
+one_pair : (told : List (Option ℕ)) (dst : ℕ)
+    → cost_shown (told ∷ []) dst (has_cost (costs_at dst (told ∷ []))) ≡ one_cost (if_there (slice_get told dst))
+one_pair told dst = by (if_there (slice_get told dst)) refl
+  where
+    by : (cost : Option ℕ) → if_there (slice_get told dst) ≡ cost
+        → cost_shown (told ∷ []) dst (has_cost (costs_at dst (told ∷ []))) ≡ one_cost (if_there (slice_get told dst))
+    by None e = rw e refl
+    by (Some cost) e = rw e refl
+
+-- the pairs of a source where all costs of one column are shown
+pub single_pairs : (columns : List Costs) (srcs dsts src : ℕ) (told : List (Option ℕ)) → src < srcs
+    → columns_at src columns ≡ told ∷ [] → length told ≡ dsts
+    → pairs_at (rows_shown columns shown_as.WithCost srcs dsts) src ≡ map one_cost told
+single_pairs columns srcs dsts src told within is long =
+    let show : Table → ℕ → Option (List (Option ℕ)) =
+    λ table dst. cost_shown table dst (has_cost (costs_at dst table)) in
+    row_there columns shown_as.WithCost srcs dsts src within
+    ∙ ((λ i. map (show (is i)) (range_with_len 0 (sym long i)))
+    ∙ each_place (show (told ∷ [])) one_cost told 0
+    (λ at d inside. ap (show (told ∷ [])) (zero_more at)
+    ∙ (one_pair told at
+    ∙ ap one_cost (there_unwrapped (slice_get told at)
+    ∙ (unwrap_or-slice_get told at None ∙ get_or_default told at None d inside)))))
+
+-- the only column of a source
+pub only_column : (columns : List Costs) (column : Costs) (src : ℕ) (told : List (Option ℕ)) → length columns ≡ 1
+    → slice_get columns 0 ≡ Some column → told ≡ unwrap_or (slice_get column src) []
+    → columns_at src columns ≡ told ∷ []
+only_column [] column src told one is costs = absurd (omega (arith, one))
+only_column (first ∷ []) column src told one is costs =
+    let same : first ≡ column = cc in
+    λ i. (ap (λ (column : Costs). unwrap_or (slice_get column src) []) same ∙ sym costs) i ∷ []
+only_column (first ∷ second ∷ more) column src told one is costs = absurd (omega (arith, one))
+
+-- costs that are told as they are
+pub costs_as_they_are : (rows : Costs) → rows ≡ costs_as scale.Numerical rows
+costs_as_they_are [] = refl
+costs_as_they_are (row ∷ rows) = λ i. all_numerical row i ∷ costs_as_they_are rows i
+
+-- the pair of the cost at a place
+pub one_at : (costs : List (Option ℕ)) (dst : ℕ)
+    → one_cost (if_there (slice_get costs dst)) ≡ if_there (slice_get (map one_cost costs) dst)
+one_at [] dst = refl
+one_at (None ∷ costs) zero = refl
+one_at (Some cost ∷ costs) zero = refl
+one_at (cost ∷ costs) (suc dst) = one_at costs dst
+
+-- whether there is one
+pub one_is : (cost : Option ℕ) → is_some cost ≡ is_some (one_cost cost)
+one_is None = refl
+one_is (Some cost) = refl
+
+pub one_of : (costs : List (Option ℕ))
+    → list_any (λ cost. is_some cost) costs ≡ list_any (λ pair. is_some pair) (map one_cost costs)
+one_of [] = refl
+one_of (None ∷ costs) = one_of costs
+one_of (Some cost ∷ costs) = refl

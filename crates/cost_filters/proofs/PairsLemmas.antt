@@ -30,7 +30,7 @@ at_place f (dst ∷ dsts) zero d within = refl
 at_place f (dst ∷ dsts) (suc at) d within = at_place f dsts at d (omega arith)
 
 -- costs that are told as they are
-all_numerical : (costs : List (Option ℕ)) → costs ≡ map (option_map (scaled scale.Numerical)) costs
+pub all_numerical : (costs : List (Option ℕ)) → costs ≡ map (option_map (scaled scale.Numerical)) costs
 all_numerical [] = refl
 all_numerical (None ∷ costs) = ap (λ (more : List (Option ℕ)). None ∷ more) (all_numerical costs)
 all_numerical (Some cost ∷ costs) = ap (λ (more : List (Option ℕ)). Some cost ∷ more) (all_numerical costs)
@@ -93,16 +93,16 @@ shown_there pairs src dsts told tested at d within costs tests = by (one_is_empt
     by false e = rw (costs, e, tests e) refl
 
 -- what is made at each place of a list
-pub each_place : {A : Type 0} (g : ℕ → A) (f : Name → A) (names : List Name) (start : ℕ)
-    → ((at : ℕ) (d : Name) → at < length names → g (start + at) ≡ f (get_or names at d))
-    → map g (range_with_len start (length names)) ≡ map f names
+pub each_place : {A B : Type 0} (g : ℕ → A) (f : B → A) (xs : List B) (start : ℕ)
+    → ((at : ℕ) (d : B) → at < length xs → g (start + at) ≡ f (get_or xs at d))
+    → map g (range_with_len start (length xs)) ≡ map f xs
 each_place g f [] start each = refl
-each_place {A} g f (name ∷ names) start each =
-    let here : g start ≡ f name = ap g (omega arith) ∙ each 0 name (omega arith) in
-    let more : map g (range_with_len (start + 1) (length names)) ≡ map f names =
-    each_place g f names (start + 1) (λ at d within. ap g (omega arith) ∙ each (suc at) d (omega arith)) in
-    ap (λ (one : A). one ∷ map g (range_with_len (start + 1) (length names))) here
-    ∙ ap (λ (rest : List A). f name ∷ rest) more
+each_place {A} g f (x ∷ xs) start each =
+    let here : g start ≡ f x = ap g (omega arith) ∙ each 0 x (omega arith) in
+    let more : map g (range_with_len (start + 1) (length xs)) ≡ map f xs =
+    each_place g f xs (start + 1) (λ at d within. ap g (omega arith) ∙ each (suc at) d (omega arith)) in
+    ap (λ (one : A). one ∷ map g (range_with_len (start + 1) (length xs))) here
+    ∙ ap (λ (rest : List A). f x ∷ rest) more
 
 pub zero_more : (at : ℕ) → 0 + at ≡ at
 zero_more at = omega arith

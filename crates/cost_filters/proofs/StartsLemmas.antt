@@ -1,10 +1,9 @@
 -- Texts that lie one behind another.
-use Rattle.std.proofs.Common.{◌≡◌, ◌∙◌, ◌≤◌, ◌<◌, ◌+◌, ℕ, refl, ap, sym, arith, drop, length, get_or}
-use Rattle.std.proofs.Common.{slice_range, slice_get, map}
-use Rattle.std.proofs.lemmas.List.{drop_at, get_or-map, length-append, take-append-le}
-use Rattle.std.proofs.lemmas.Option.{unwrap_or-slice_get}
+use Rattle.std.proofs.Common.{◌≡◌, ◌∙◌, ◌≤◌, ◌+◌, ℕ, refl, ap, sym, arith, drop, length}
+use Rattle.std.proofs.Common.{slice_range}
+use Rattle.std.proofs.lemmas.List.{drop_at, length-append, take-append-le}
 use Rattle.std.proofs.lemmas.Slice.{between_is, between_to_end}
-use Rattle.std.specs.Prelude.{List, [], ◌∷◌, ◌++◌, unwrap_or}
+use Rattle.std.specs.Prelude.{List, [], ◌∷◌, ◌++◌}
 use Rattle.cost_filters.specs.Starts.{AreWithin, texts_at}
 
 -- ---- a text more
@@ -49,8 +48,3 @@ within_more bytes more (place ∷ places) within =
     let first : place.1 ≤ length bytes = within.0 in
     let longer : length (bytes ++ more) ≡ length bytes + length more = length-append bytes more in
     (omega arith, within_more bytes more places within.1)
-
--- the text that was made for the one at a place
-pub text_for : {A : Type 0} (text : A → List ℕ) (xs : List A) (at : ℕ) (d : A) → at < length xs
-    → unwrap_or (slice_get (map text xs) at) [] ≡ text (get_or xs at d)
-text_for text xs at d within = unwrap_or-slice_get (map text xs) at [] ∙ get_or-map text xs at d [] within

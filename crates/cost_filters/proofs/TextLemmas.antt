@@ -39,7 +39,9 @@ use Rattle.cost_filters.specs.Columns.{columns_of, dsts_tried, group_value, has_
 use Rattle.cost_filters.specs.Columns.{reached, srcs_tried, valued}
 use Rattle.cost_filters.specs.Filter.{costs_data, costs_of, filtered_face, is_pair, types_name}
 use Rattle.cost_tables.specs.Tables.{IsSetOf}
-use Rattle.cost_filters.specs.Names.{AreSetIfAny, names_given}
+use Rattle.cost_filters.specs.Names.{AreSetIfAny, names_given, pids_unless_given, srcs_among}
+use Rattle.net_docs.specs.NetworkMap.{pids_of}
+use Rattle.net_docs.proofs.MergedLemmas.{pids_rise}
 use Rattle.cost_filters.specs.Pairs.{PairsData, group_shown, if_there, pair_shown, pairs_of}
 use Rattle.cost_filters.specs.Text.{PutsIfAny, found_object, group_made, shown_members}
 use Rattle.cost_filters.proofs.FilterLemmas.{groups_shown}
@@ -205,6 +207,13 @@ given_is multi (pick.Only names) pairs src =
 pub given_rise : (picks : Pick) → AreSetIfAny (names_given picks)
 given_rise pick.All = tt
 given_rise (pick.Only names) = rise-set_of names
+
+-- the sources that are given, or else all PIDs, are those that may be sources
+pub tried_set : (rows : Rows) (net : Name) (picks : Pick) (pids srcs : List Name) → AreSorted rows
+    → pids ≡ pids_unless_given rows net picks → srcs ≡ srcs_among pids picks → IsSetOf srcs (srcs_tried rows net picks)
+tried_set rows net pick.All pids srcs sorted all among =
+    rising_set srcs (pids_of rows net) (among ∙ all) (pids_rise net rows sorted)
+tried_set rows net (pick.Only names) pids srcs sorted all among = set_is srcs names names among refl
 
 -- the groups of the sources in byte order are those of the filtered map
 pub section_is : (rows : Rows) (net : Name) (ask : CostAskData) (srcs : List Name) → AreGood rows

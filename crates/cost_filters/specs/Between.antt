@@ -1,5 +1,6 @@
 -- Costs and pairs between sources and destinations, which are told by their places.
-use Rattle.std.specs.Prelude.{◌≡◌, ◌<◌, ℕ, List, [], Bool, false, Option, map, option_map, slice_get, unwrap_or}
+use Rattle.std.specs.Prelude.{◌≡◌, ◌<◌, ℕ, List, [], ◌∷◌, Bool, false, Option, Some, map, option_map, slice_get}
+use Rattle.std.specs.Prelude.{unwrap_or}
 use Rattle.std.specs.List.{range_with_len}
 use Rattle.alto_maps.specs.Shape.{Name}
 use Rattle.cost_tables.specs.Tables as tables
@@ -71,6 +72,10 @@ row_shown costs shown dsts src =
 -- those of so many sources
 abbrev pub rows_shown : List Costs → Shown → ℕ → ℕ → List Found
 rows_shown costs shown srcs dsts = map (row_shown costs shown dsts) (range_with_len 0 srcs)
+
+-- the pair with one cost, if there is one
+abbrev pub one_cost : Option ℕ → Option (List (Option ℕ))
+one_cost cost = option_map (λ cost. Some cost ∷ []) cost
 
 -- the pairs of the source at a place
 abbrev pub pairs_at : List Found → ℕ → Found

@@ -10,3 +10,5 @@ pub mod Between
 pub mod Names
 pub mod Starts
 pub mod Text
+pub mod Picks
+pub mod PairsFrom

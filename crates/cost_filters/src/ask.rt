@@ -6,20 +6,19 @@ ghost use Rattle.cost_filters.specs.Ask.{cost_ask, ends_in};
 
 use crate::constraints::{Tests, read_constraints};
 use crate::fields::object_in;
-use crate::picks::picked;
+use crate::picks::{PidPick, picked};
 use crate::types::{AskedTypes, CostType, read_types};
 use alto_asks::AskFault;
 use alto_names::NetName;
 use alto_rows::RowStore;
 use cost_rule::Constraint;
 use json_tree::Tree;
-use net_docs::Pick;
 use std::alloc::Global;
 use std::marker::Model;
 
 /// What is asked of the cost maps of a network (RFC 7285, section 11.3.2.3; RFC 8189, section 4.1.2).
 #[derive(Debug, Drop)]
-pub struct CostAsk {
+pub struct CostAsk<'t> {
     /// Whether the cost types are asked for in the form of several.
     pub multi: bool,
     /// The cost types, in the order in which they are asked for.
@@ -28,11 +27,11 @@ pub struct CostAsk {
     pub tested: Vec<CostType>,
     /// Lists of constraints, of which one must hold whole.
     pub alternatives: Vec<Vec<Constraint>>,
-    pub srcs: Pick,
-    pub dsts: Pick,
+    pub srcs: PidPick<'t>,
+    pub dsts: PidPick<'t>,
 }
 
-impl Model for CostAsk {
+impl<'t> Model for CostAsk<'t> {
     ghost use Rattle.std.specs.Prelude.{map};
     ghost use Rattle.cost_filters.specs.Ask.{CostAskData};
 
@@ -50,9 +49,9 @@ impl Model for CostAsk {
 
 /// Which sources and which destinations are asked for.
 #[derive(Debug, Drop)]
-struct Ends {
-    srcs: Pick,
-    dsts: Pick,
+struct Ends<'t> {
+    srcs: PidPick<'t>,
+    dsts: PidPick<'t>,
 }
 
 /// What the body of a request asks of the cost maps of a network. Linear in the body, with one search for each cost
@@ -63,12 +62,12 @@ struct Ends {
 /// `Bad` with the first fault in the order of the fields: those of [`read_types`], those of [`read_constraints`], and
 /// `InvalidFieldType` where `pids` is no object, or its `srcs` or `dsts` no list of texts.
 #[tactic(auto, unfolding(crate::specs::Ask::cost_ask))]
-pub fn read_cost_ask<R: RowStore>(
+pub fn read_cost_ask<'t, R: RowStore>(
     alloc: Global,
     rows: &R,
     net: &NetName,
-    object: &Tree,
-) -> Result<CostAsk, AskFault>
+    object: &'t Tree,
+) -> Result<CostAsk<'t>, AskFault>
     ensures ok { IfOk result (λ ask. cost_ask (R.rows rows.now) net.now (data_of object.now) ≡ Ok ask) }
     ensures err { IfErr result (λ fault. fault ≢ AskFault.Memory
         → cost_ask (R.rows rows.now) net.now (data_of object.now) ≡ Err fault) }
@@ -90,7 +89,7 @@ pub fn read_cost_ask<R: RowStore>(
 }
 
 /// The sources and the destinations that are asked for.
-fn read_ends(alloc: Global, ask: &Tree) -> Result<Ends, AskFault>
+fn read_ends(alloc: Global, ask: &Tree) -> Result<Ends<'_>, AskFault>
     ensures ok { IfOk result (λ ends. ends_in (get pids_field (data_of ask.now)) ≡ Ok ends) }
     ensures err { IfErr result (λ fault. fault ≢ AskFault.Memory
         → ends_in (get pids_field (data_of ask.now)) ≡ Err fault) }
@@ -103,8 +102,8 @@ fn read_ends(alloc: Global, ask: &Tree) -> Result<Ends, AskFault>
             Ok(Ends { srcs, dsts })
         }
         None => Ok(Ends {
-            srcs: Pick::All,
-            dsts: Pick::All,
+            srcs: PidPick::all(),
+            dsts: PidPick::all(),
         }),
     }
 }

@@ -1,10 +1,12 @@
 //! The costs of columns between sources and destinations.
-ghost use Rattle.std.specs.Prelude.{◌≡◌, ◌++◌, [], false, IfOk, OnOk, is_some, map, option_map, slice_get, unwrap_or};
+ghost use Rattle.std.specs.Prelude.{◌≡◌, ◌++◌, [], false, IfOk, IfSome, OnOk, is_some, map, option_map, slice_get};
+ghost use Rattle.std.specs.Prelude.{unwrap_or};
 ghost use Rattle.serde_json.specs.View.{items_of};
 ghost use Rattle.serde_json.specs.Written.{compact_text, items_text};
 ghost use Rattle.cost_docs.specs.CostMap.{number_data};
 ghost use Rattle.cost_filters.specs.declared.columns.Scale.TheVariants as told_as;
-ghost use Rattle.cost_filters.specs.Between.{columns_at, column_between, cost_between, tested_between, told_between};
+ghost use Rattle.cost_filters.specs.Between.{columns_at, column_between, cost_between, costs_as, tested_between};
+ghost use Rattle.cost_filters.specs.Between.{told_between};
 ghost use Rattle.cost_filters.specs.Columns.{scaled};
 ghost use Rattle.cost_filters.specs.Filter.{costs_data};
 ghost use Rattle.cost_filters.specs.Pairs.{costs_at, has_cost};
@@ -12,8 +14,8 @@ ghost use Rattle.cost_filters.specs.Pairs.{costs_at, has_cost};
 use crate::columns::{Column, Scale, scaled};
 use crate::text::{push_comma, push_cost};
 use crate::types::CostType;
-use alto_names::{NetName, PidName};
-use cost_tables::CostTables;
+use alto_names::NetName;
+use cost_tables::{CostTables, PidText};
 use std::alloc::{AllocError, Global};
 use std::marker::Model;
 
@@ -50,12 +52,45 @@ impl ColumnBetween<'_> {
         }
     }
 
+    /// The costs from the source at a place, where they are told as they are.
+    pub(crate) fn unscaled(&self, src: usize) -> Option<&[Option<u64>]>
+        ensures { IfSome result (λ costs. costs.now ≡ unwrap_or (slice_get self.now src) []) }
+    {
+        match self.scale {
+            Some(scale) => unscaled(scale, &self.costs, src),
+            None => row_at(&self.costs, src),
+        }
+    }
+
     /// Whether there is one.
     pub(crate) fn has_cost(&self, src: usize, dst: usize) -> bool
         ensures { result ≡ is_some (cost_between self.now src dst) }
     {
         cost_at(&self.costs, src, dst).is_some()
     }
+}
+
+/// The costs from the source at a place, where this scale leaves them as they are.
+fn unscaled<'c>(
+    scale: &Scale,
+    costs: &'c [Vec<Option<u64>>],
+    src: usize,
+) -> Option<&'c [Option<u64>]>
+    ensures { IfSome result (λ row. row.now
+        ≡ unwrap_or (slice_get (costs_as scale.now (map (λ row. row.items) costs.now)) src) []) }
+{
+    match scale {
+        Scale::Numerical => row_at(costs, src),
+        Scale::Ordinal(_) => None,
+    }
+}
+
+/// The costs from the source at a place, as they are.
+fn row_at(costs: &[Vec<Option<u64>>], src: usize) -> Option<&[Option<u64>]>
+    ensures { IfSome result (λ row. row.now ≡ unwrap_or (slice_get (map (λ row. row.items) costs.now) src) []) }
+{
+    let row = costs.get(src)?;
+    Some(row.as_slice())
 }
 
 /// The cost between a source and a destination at these places, as it is.
@@ -72,8 +107,8 @@ pub(crate) fn told_between<'a>(
     tables: &'a CostTables,
     net: &NetName,
     columns: &'a [Column],
-    srcs: &[PidName],
-    dsts: &[PidName],
+    srcs: &[PidText],
+    dsts: &[PidText],
 ) -> Result<Vec<ColumnBetween<'a>>, AllocError>
     ensures { IfOk result (λ told. told.items ≡ told_between tables.now net.now columns.now srcs.now dsts.now) }
 {
@@ -89,8 +124,8 @@ fn of_column<'a>(
     tables: &'a CostTables,
     net: &NetName,
     column: &'a Column,
-    srcs: &[PidName],
-    dsts: &[PidName],
+    srcs: &[PidText],
+    dsts: &[PidText],
 ) -> Result<ColumnBetween<'a>, AllocError>
     ensures { IfOk result (λ told. told
         ≡ column_between tables.now net.now srcs.now dsts.now column.now.metric column.now.scale) }
@@ -107,8 +142,8 @@ pub(crate) fn tested_between<'a>(
     tables: &'a CostTables,
     net: &NetName,
     types: &[CostType],
-    srcs: &[PidName],
-    dsts: &[PidName],
+    srcs: &[PidText],
+    dsts: &[PidText],
 ) -> Result<Vec<ColumnBetween<'a>>, AllocError>
     ensures { IfOk result (λ tested. tested.items ≡ tested_between tables.now net.now types.now srcs.now dsts.now) }
 {
@@ -124,8 +159,8 @@ fn of_type<'a>(
     tables: &'a CostTables,
     net: &NetName,
     one: &CostType,
-    srcs: &[PidName],
-    dsts: &[PidName],
+    srcs: &[PidText],
+    dsts: &[PidText],
 ) -> Result<ColumnBetween<'a>, AllocError>
     ensures { IfOk result (λ tested. tested
         ≡ column_between tables.now net.now srcs.now dsts.now one.now.metric told_as.Numerical) }

@@ -6,7 +6,7 @@ ghost use Rattle.cost_tables.specs.Tables.{IsSetOf};
 ghost use Rattle.cost_filters.specs.Columns.{column_of, columns_of, destination, reached, scale_of, scaled};
 ghost use Rattle.cost_docs.specs.CostMap as map_spec;
 
-use crate::names::distinct;
+use crate::names::distinct_names;
 use crate::types::CostType;
 use alto_names::{Metric, NetName, PidName};
 use alto_rows::{Key, RowStore, Span, Within, rows_in};
@@ -92,7 +92,7 @@ pub(crate) fn reached_once<R: RowStore>(
     if columns.len() < 2 {
         return Ok(names);
     }
-    distinct(alloc, &names)
+    distinct_names(names)
 }
 
 /// The PIDs to which a source has a cost in one of these columns, column by column. One search for each, and one walk

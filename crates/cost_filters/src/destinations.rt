@@ -1,9 +1,10 @@
 //! Destinations with their names as text.
-ghost use Rattle.std.specs.Prelude.{◌≡◌, [], IfOk, length, map, slice_get, unwrap_or};
+ghost use Rattle.std.specs.Prelude.{◌≡◌, [], IfOk, map};
 ghost use Rattle.cost_filters.specs.Text.{member_start};
 
 use crate::starts::MemberStarts;
 use alto_names::PidName;
+use cost_tables::PidText;
 use std::alloc::{AllocError, Global};
 use std::marker::Model;
 
@@ -46,7 +47,7 @@ impl Destinations {
         if old == names {
             return Ok(Destinations { names, starts });
         }
-        let starts = starts_of(&names, starts)?;
+        let starts = starts_in(starts, &names)?;
         Ok(Destinations { names, starts })
     }
 
@@ -57,23 +58,27 @@ impl Destinations {
         &self.names
     }
 
-    /// How many there are.
-    pub(crate) fn count(&self) -> usize
-        ensures { result ≡ length self.now }
+    /// The names, as members have them.
+    pub(crate) fn starts(&self) -> &MemberStarts
+        ensures { result.now ≡ map member_start self.now }
     {
-        self.names.len()
-    }
-
-    /// The name at a place, as a member has it.
-    pub(crate) fn start(&self, place: usize) -> &[u8]
-        ensures { result.now ≡ unwrap_or (slice_get (map member_start self.now) place) [] }
-    {
-        self.starts.text(place)
+        &self.starts
     }
 }
 
-/// Names as members have them, in the memory of some that aren't needed any more.
-fn starts_of(names: &[PidName], room: MemberStarts) -> Result<MemberStarts, AllocError>
+/// Names as members have them.
+pub(crate) fn starts_of(alloc: Global, names: &[PidText]) -> Result<MemberStarts, AllocError>
+    ensures { IfOk result (λ starts. starts ≡ map member_start names.now) }
+{
+    let mut starts = MemberStarts::new(alloc);
+    for name in names {
+        starts = starts.with(name.as_str())?;
+    }
+    Ok(starts)
+}
+
+/// The same, in the memory of some that aren't needed any more.
+fn starts_in(room: MemberStarts, names: &[PidName]) -> Result<MemberStarts, AllocError>
     ensures { IfOk result (λ starts. starts ≡ map member_start names.now) }
 {
     let mut starts = room.into_empty();

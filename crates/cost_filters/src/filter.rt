@@ -11,25 +11,23 @@ ghost use Rattle.cost_tables.specs.Tables.{AreCostsOf};
 ghost use Rattle.alto_maps.specs.Shape.{section_object};
 ghost use Rattle.alto_maps.specs.Writing.{AddsMember, AddsMembers};
 ghost use Rattle.net_docs.specs.NetworkMap.{dependent_tags};
-ghost use Rattle.cost_filters.specs.Between.{pairs_at};
 ghost use Rattle.cost_filters.specs.Columns.{valued};
 ghost use Rattle.cost_filters.specs.Filter.{filtered_costs, filtered_face, filtered_meta};
 ghost use Rattle.cost_filters.specs.Filter.{types_data, types_name};
 ghost use Rattle.cost_filters.specs.Names.{AreSetIfAny};
 ghost use Rattle.cost_filters.specs.Pairs.{pair_costs};
-ghost use Rattle.cost_filters.specs.Text.{PutsIfAny, group_made, found_object, shown_members};
+ghost use Rattle.cost_filters.specs.Text.{PutsIfAny, found_object, group_made};
 
 use crate::ask::CostAsk;
-use crate::destinations::Destinations;
-use crate::names::{names_given, srcs_of};
+use crate::destinations::{Destinations, starts_of};
+use crate::groups::push_group;
+use crate::names::{names_given, pids_unless_given, srcs_among, texts_of};
 use crate::pairs::Pairs;
-use crate::pairs_between::PairsBetween;
-use crate::text::{push_comma, push_name};
 use crate::types::CostType;
 use crate::writing::write_types;
-use alto_names::{NetName, PidName};
+use alto_names::NetName;
 use alto_rows::RowStore;
-use cost_tables::CostTables;
+use cost_tables::{CostTables, PidText};
 use json::Writer;
 use net_docs::write_dependent_tags;
 use std::alloc::{AllocError, Global};
@@ -127,10 +125,11 @@ fn push_section<R: RowStore>(
         &ask.tested,
         &ask.alternatives,
     )?;
-    let srcs = srcs_of(alloc, rows, net, &ask.srcs)?;
+    let pids = pids_unless_given(alloc, rows, net, &ask.srcs)?;
+    let srcs = srcs_among(alloc, &pids, &ask.srcs)?;
     let given = names_given(alloc, &ask.dsts)?;
     out.push(b'{')?;
-    push_groups(alloc, &pairs, ask.multi, &srcs, given, out)
+    push_groups(alloc, &pairs, ask.multi, &srcs, &given, out)
 }
 
 /// Puts the groups of those of these sources that have a pair, with the brace behind them.
@@ -138,13 +137,13 @@ fn push_groups<R: RowStore>(
     alloc: Global,
     pairs: &Pairs<R>,
     multi: bool,
-    srcs: &[PidName],
-    given: Option<Vec<PidName>>,
+    srcs: &[PidText],
+    given: &Option<Vec<PidText>>,
     out: &mut Vec<u8>,
 ) -> Result<(), AllocError>
-    requires { AreSetIfAny (option_map (λ names. names.items) given) }
+    requires { AreSetIfAny (option_map (λ names. names.items) given.now) }
     ensures { OnOk result (out.new.items ≡ out.old.items ++ members_text false (members_in_order
-        (valued (group_made multi (option_map (λ names. names.items) given) pairs.now) srcs.now))) }
+        (valued (group_made multi (option_map (λ names. names.items) given.now) pairs.now) srcs.now))) }
 {
     match given {
         Some(names) => push_given(alloc, pairs, multi, srcs, names, out),
@@ -157,19 +156,20 @@ fn push_given<R: RowStore>(
     alloc: Global,
     pairs: &Pairs<R>,
     multi: bool,
-    srcs: &[PidName],
-    names: Vec<PidName>,
+    srcs: &[PidText],
+    dsts: &[PidText],
     out: &mut Vec<u8>,
 ) -> Result<(), AllocError>
-    requires { IsStrictlySortedBy (slice_cmp nat_cmp) names.items }
+    requires { IsStrictlySortedBy (slice_cmp nat_cmp) dsts.now }
     ensures { OnOk result (out.new.items ≡ out.old.items ++ members_text false (members_in_order
-        (valued (group_made multi (Some names.items) pairs.now) srcs.now))) }
+        (valued (group_made multi (Some dsts.now) pairs.now) srcs.now))) }
 {
-    let dsts = Destinations::none(alloc).renewed(names)?;
-    let between = pairs.between(alloc, srcs, dsts.names())?;
+    let starts = starts_of(alloc, dsts)?;
+    let between = pairs.between(alloc, srcs, dsts)?;
     let mut later = false;
     for (at, src) in srcs.iter().enumerate() {
-        later = push_found(multi, src, at, &dsts, &between, later, out)?;
+        let found = between.from_source(at);
+        later = push_group(multi, src.as_str(), &starts, &found, later, out)?;
     }
     out.push(b'}')?;
     Ok(())
@@ -181,7 +181,7 @@ fn push_reached<R: RowStore>(
     alloc: Global,
     pairs: &Pairs<R>,
     multi: bool,
-    srcs: &[PidName],
+    srcs: &[PidText],
     out: &mut Vec<u8>,
 ) -> Result<(), AllocError>
     ensures { OnOk result (out.new.items ≡ out.old.items ++ members_text false (members_in_order
@@ -203,7 +203,7 @@ fn push_source<R: RowStore>(
     alloc: Global,
     pairs: &Pairs<R>,
     multi: bool,
-    src: &PidName,
+    src: &PidText,
     dsts: &Destinations,
     later: bool,
     out: &mut Vec<u8>,
@@ -212,51 +212,8 @@ fn push_source<R: RowStore>(
         (found_object multi dsts.now (map (pair_costs pairs.now src.now) dsts.now))
         later out.old.items after out.new.items) }
 {
-    let between = pairs.between(alloc, slice::from_ref(src), dsts.names())?;
-    let after = push_found(multi, src, 0, dsts, &between, later, out);
-    drop(between);
-    after
-}
-
-/// Puts the pairs of the source at a place as a member with its name, if it has any. Tells whether a member stands
-/// before the next.
-fn push_found(
-    multi: bool,
-    src: &PidName,
-    at: usize,
-    dsts: &Destinations,
-    pairs: &PairsBetween,
-    later: bool,
-    out: &mut Vec<u8>,
-) -> Result<bool, AllocError>
-    ensures { IfOk result (λ after. PutsIfAny src.now (found_object multi dsts.now (pairs_at pairs.now at))
-        later out.old.items after out.new.items) }
-{
-    if !pairs.has_pair(at) {
-        return Ok(later);
-    }
-    push_comma(later, out)?;
-    push_name(src.as_str(), out)?;
-    out.push(b'{')?;
-    push_members(multi, at, dsts, pairs, out)?;
-    Ok(true)
-}
-
-/// Puts each of the destinations with which the source at a place has a pair, with the brace behind them.
-fn push_members(
-    multi: bool,
-    src: usize,
-    dsts: &Destinations,
-    pairs: &PairsBetween,
-    out: &mut Vec<u8>,
-) -> Result<(), AllocError>
-    ensures { OnOk result (out.new.items ≡ out.old.items ++ members_text false
-        (members_in_order (shown_members multi dsts.now (pairs_at pairs.now src)))) }
-{
-    let mut later = false;
-    for at in 0..dsts.count() {
-        later = pairs.push_pair(multi, dsts.start(at), src, at, later, out)?;
-    }
-    out.push(b'}')?;
-    Ok(())
+    let names = texts_of(alloc, dsts.names())?;
+    let between = pairs.between(alloc, slice::from_ref(src), &names)?;
+    let found = between.from_source(0);
+    push_group(multi, src.as_str(), dsts.starts(), &found, later, out)
 }

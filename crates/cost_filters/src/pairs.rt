@@ -14,7 +14,7 @@ use crate::types::CostType;
 use alto_names::{NetName, PidName};
 use alto_rows::RowStore;
 use cost_rule::Constraint;
-use cost_tables::CostTables;
+use cost_tables::{CostTables, PidText};
 use std::alloc::{AllocError, Global};
 use std::marker::Model;
 
@@ -88,11 +88,12 @@ impl<'a, R: RowStore> Pairs<'a, R> {
 
     /// The PIDs to which a source has a cost by an asked type, in byte order. For each type one search, and one walk
     /// over the source's rows; for several types one sort.
-    pub(crate) fn reached(&self, alloc: Global, src: &PidName) -> Result<Vec<PidName>, AllocError>
+    pub(crate) fn reached(&self, alloc: Global, src: &PidText) -> Result<Vec<PidName>, AllocError>
         ensures { IfOk result (λ names. IsSetOf names.items
             (reached self.now.rows self.now.net (columns_of self.now.rows self.now.net self.now.types) src.now)) }
     {
-        reached_once(alloc, self.rows, self.net, &self.columns, src)
+        let src = src.to_name(alloc)?;
+        reached_once(alloc, self.rows, self.net, &self.columns, &src)
     }
 
     /// The pairs between sources and destinations. For each type that is asked for or tested one pass over the metrics,
@@ -101,8 +102,8 @@ impl<'a, R: RowStore> Pairs<'a, R> {
     pub fn between(
         &self,
         alloc: Global,
-        srcs: &[PidName],
-        dsts: &[PidName],
+        srcs: &[PidText],
+        dsts: &[PidText],
     ) -> Result<PairsBetween<'_>, AllocError>
         ensures { IfOk result (λ pairs. pairs ≡ map (λ src. map (pair_costs self.now src) dsts.now) srcs.now) }
     {
@@ -130,8 +131,8 @@ fn shown_between(
     types: &[CostType],
     alternatives: &[Vec<Constraint>],
     told: &[ColumnBetween],
-    srcs: &[PidName],
-    dsts: &[PidName],
+    srcs: &[PidText],
+    dsts: &[PidText],
 ) -> Result<Shown, AllocError>
     ensures { IfOk result (AreShown (map (λ constraints. constraints.items) alternatives.now) told.now
         (tested_between tables.now net.now types.now srcs.now dsts.now) (length srcs.now) (length dsts.now)) }

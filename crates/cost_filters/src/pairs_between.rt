@@ -1,12 +1,13 @@
-ghost use Rattle.std.specs.Prelude.{◌≡◌, false, IfOk, is_some, map, option_map, slice_get, unwrap_or};
+ghost use Rattle.std.specs.Prelude.{◌≡◌, ◌∷◌, [], false, IfOk, IfSome, is_some, map, option_map, slice_get, unwrap_or};
 ghost use Rattle.std.specs.List.{list_any};
 ghost use Rattle.alto_maps.specs.Shape.{Name};
-ghost use Rattle.cost_filters.specs.Between.{flag_at, is_flagged, pairs_at, rows_shown};
+ghost use Rattle.cost_filters.specs.Between.{columns_at, flag_at, is_flagged, one_cost, pairs_at, rows_shown};
 ghost use Rattle.cost_filters.specs.Filter.{costs_data};
 ghost use Rattle.cost_filters.specs.Pairs.{if_there};
 ghost use Rattle.cost_filters.specs.Text.{PutsIfAny, member_start};
 
 use crate::column_between::{ColumnBetween, has_cost, push_costs};
+use crate::pairs_from::PairsFrom;
 use crate::starts::push_made;
 use std::alloc::AllocError;
 use std::marker::Model;
@@ -58,9 +59,34 @@ impl<'a> PairsBetween<'a> {
     }
 }
 
-impl PairsBetween<'_> {
+impl<'a> PairsBetween<'a> {
+    /// The pairs from the source at a place.
+    pub fn from_source(&self, src: usize) -> PairsFrom<'_, 'a>
+        ensures { result ≡ pairs_at self.now src }
+    {
+        match self.single_costs(src) {
+            Some(costs) => PairsFrom::of_costs(costs),
+            None => PairsFrom::at(self, src),
+        }
+    }
+
+    /// The costs from a source, where one type is asked for, no ranks of it, and no constraint tests a pair.
+    fn single_costs(&self, src: usize) -> Option<&[Option<u64>]>
+        ensures { IfSome result (λ costs. pairs_at self.now src ≡ map one_cost costs.now) }
+    {
+        let Shown::WithCost = &self.shown else {
+            return None;
+        };
+        let costs = only_costs(&self.costs, src)?;
+        if src < self.sources && costs.len() == self.destinations {
+            Some(costs)
+        } else {
+            None
+        }
+    }
+
     /// Whether the source at a place has a pair.
-    pub fn has_pair(&self, src: usize) -> bool
+    pub(crate) fn has_pair(&self, src: usize) -> bool
         ensures { result ≡ list_any (λ pair. is_some pair) (pairs_at self.now src) }
     {
         for dst in 0..self.destinations {
@@ -72,7 +98,7 @@ impl PairsBetween<'_> {
     }
 
     /// Whether the source and the destination at these places are one.
-    pub fn is_pair(&self, src: usize, dst: usize) -> bool
+    pub(crate) fn is_pair(&self, src: usize, dst: usize) -> bool
         ensures { result ≡ is_some (if_there (slice_get (pairs_at self.now src) dst)) }
     {
         if src >= self.sources {
@@ -87,7 +113,7 @@ impl PairsBetween<'_> {
     /// Puts the costs of the source and the destination at these places as a member, if they are a pair, whose name was
     /// made by `MemberStarts`: in the form of several a list, else the one. Tells whether a member stands before the
     /// next.
-    pub fn push_pair(
+    pub(crate) fn push_pair(
         &self,
         multi: bool,
         start: &[u8],
@@ -106,6 +132,19 @@ impl PairsBetween<'_> {
         push_made(start, later, out)?;
         push_costs(&self.costs, multi, src, dst, out)?;
         Ok(true)
+    }
+}
+
+/// The costs from a source in the only column, where they are told as they are.
+fn only_costs<'c>(columns: &'c [ColumnBetween], src: usize) -> Option<&'c [Option<u64>]>
+    ensures { IfSome result (λ costs. columns_at src columns.now ≡ costs.now ∷ []) }
+{
+    if columns.len() != 1 {
+        return None;
+    }
+    match columns.first() {
+        Some(column) => column.unscaled(src),
+        None => None,
     }
 }
 

@@ -68,8 +68,15 @@ impl MemberStarts {
         Ok(MemberStarts { bytes, places })
     }
 
+    /// How many there are.
+    pub(crate) fn count(&self) -> usize
+        ensures { result ≡ length self.now }
+    {
+        self.places.len()
+    }
+
     /// The one at a place, nothing where there is none.
-    pub fn text(&self, place: usize) -> &[u8]
+    pub(crate) fn text(&self, place: usize) -> &[u8]
         ensures { result.now ≡ unwrap_or (slice_get self.now place) [] }
     {
         match self.places.get(place) {

@@ -6,3 +6,4 @@ pub mod RenewedLemmas
 pub mod TableLemmas
 pub mod ListLemmas
 pub mod TablesLemmas
+pub mod PidTextLemmas

@@ -7,9 +7,9 @@ ghost use Rattle.cost_tables.specs.Lists.{ArePlacesFor, HaveNumbers, sources_in,
 ghost use Rattle.cost_tables.specs.Tables.{cost_told, costs_between};
 
 use crate::from_source::FromSource;
+use crate::pid_text::PidText;
 use crate::places::Places;
 use crate::table::Table;
-use alto_names::PidName;
 use std::alloc::{AllocError, Global};
 
 /// The costs in a metric from sources to destinations, of a table, if the metric has one.
@@ -20,8 +20,8 @@ use std::alloc::{AllocError, Global};
 pub(crate) fn costs_between(
     alloc: Global,
     table: Option<&Table>,
-    sources: &[PidName],
-    destinations: &[PidName],
+    sources: &[PidText],
+    destinations: &[PidText],
 ) -> Result<Vec<Vec<Option<u64>>>, AllocError>
     ensures { IfOk result (λ costs. map (λ row. row.items) costs.items
         ≡ costs_between (table_of (sources_in (option_map (λ table. table.now) table.entry)))
@@ -40,8 +40,8 @@ pub(crate) fn costs_between(
 fn costs_from(
     alloc: Global,
     table: Option<&Table>,
-    source: &PidName,
-    destinations: &[PidName],
+    source: &PidText,
+    destinations: &[PidText],
     places: &mut Places,
 ) -> Result<Vec<Option<u64>>, AllocError>
     requires { ArePlacesFor (sources_in (option_map (λ table. table.now) table)) destinations.now places.old }
@@ -59,7 +59,7 @@ fn costs_from(
 }
 
 /// No cost, for each of these destinations.
-fn no_costs(alloc: Global, destinations: &[PidName]) -> Result<Vec<Option<u64>>, AllocError>
+fn no_costs(alloc: Global, destinations: &[PidText]) -> Result<Vec<Option<u64>>, AllocError>
     ensures { IfOk result (λ costs. costs.items ≡ map (λ destination. None) destinations.now) }
 {
     let mut costs = Vec::with_capacity(alloc, destinations.len())?;
@@ -70,7 +70,7 @@ fn no_costs(alloc: Global, destinations: &[PidName]) -> Result<Vec<Option<u64>>,
 }
 
 /// The costs from a source in a table, if there are any. One binary search.
-fn from_in<'a>(table: Option<&'a Table>, source: &PidName) -> Option<&'a FromSource>
+fn from_in<'a>(table: Option<&'a Table>, source: &PidText) -> Option<&'a FromSource>
     ensures from { option_map (λ from. from.now.1) result
         ≡ lookup (is_at (name_cmp source.now)) (sources_in (option_map (λ table. table.now) table.entry)) }
     ensures lists { HaveNumbers (sources_in (option_map (λ table. table.now) table.entry)) }

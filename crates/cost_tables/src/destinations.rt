@@ -1,11 +1,13 @@
 //! Destinations that sources share.
-ghost use Rattle.std.specs.Prelude.{◌≡◌, true, OnOk, Some, slice_get};
+ghost use Rattle.std.specs.Prelude.{◌≡◌, true, IfOk, OnOk, Some, slice_get};
 ghost use Rattle.std.specs.List.Sorted.{IsStrictlySortedBy};
 ghost use Rattle.alto_rows.specs.Order.{name_cmp};
 ghost use Rattle.cost_tables.specs.Lists.{ArePlaces, IsPlace};
 
+use crate::heads::{head_of, place_of};
+use crate::pid_text::PidText;
 use alto_names::PidName;
-use std::alloc::AllocError;
+use std::alloc::{AllocError, Global};
 use std::marker::Model;
 
 /// The names of destinations in byte order, each once, and the number of this list among those of a table. A contract
@@ -14,6 +16,8 @@ use std::marker::Model;
 pub(crate) struct Destinations {
     number: u64,
     names: Vec<PidName>,
+    /// The first bytes of the names, where a search begins.
+    heads: Vec<u64>,
 }
 
 impl Model for Destinations {
@@ -30,11 +34,20 @@ impl Model for Destinations {
 
 impl Destinations {
     /// These names under a number.
-    pub(crate) fn new(number: u64, names: Vec<PidName>) -> Destinations
+    pub(crate) fn new(
+        alloc: Global,
+        number: u64,
+        names: Vec<PidName>,
+    ) -> Result<Destinations, AllocError>
         requires { IsStrictlySortedBy name_cmp names.items }
-        ensures { result ≡ record { number = number; names = names.items } }
+        ensures { IfOk result (λ list. list ≡ record { number = number; names = names.items }) }
     {
-        Destinations { number, names }
+        let heads = heads_of(alloc, &names)?;
+        Ok(Destinations {
+            number,
+            names,
+            heads,
+        })
     }
 
     /// The number.
@@ -51,11 +64,12 @@ impl Destinations {
         &self.names
     }
 
-    /// Finds where destinations stand, past all names where one isn't there. One comparison of two names for each that
-    /// follows the one before here too, else one binary search.
+    /// Finds where destinations stand, past all names where one isn't there. For each one search among numbers that lie
+    /// together, which is spared where it follows the one before here too, and one comparison of two names, where no
+    /// other name begins with the same eight bytes; else one binary search more.
     pub(crate) fn find(
         &self,
-        destinations: &[PidName],
+        destinations: &[PidText],
         places: &mut Vec<usize>,
     ) -> Result<(), AllocError>
         ensures { OnOk result (ArePlaces self.now.names destinations.now places.new.items) }
@@ -64,37 +78,39 @@ impl Destinations {
         let mut next = 0;
         for destination in destinations {
             let place = self.place(destination, next);
-            next = self.behind(place, next);
+            next = place.saturating_add(1);
             places.push(place)?;
         }
         Ok(())
     }
 
-    /// The place behind one, or another one if no name stands there.
-    fn behind(&self, place: usize, other: usize) -> usize {
-        if place < self.names.len() {
-            place + 1
-        } else {
-            other
-        }
-    }
-
-    /// Where a destination stands. One comparison of two names where it stands at the place that is guessed, else one
-    /// binary search.
-    fn place(&self, destination: &PidName, guess: usize) -> usize
+    /// Where a destination stands, which may be at this place.
+    fn place(&self, destination: &PidText, next: usize) -> usize
         ensures { IsPlace self.now.names destination.now result }
     {
+        let guess = self.guess(head_of(destination), next);
         if stands_at(&self.names, guess, destination) {
             return guess;
         }
         self.search(destination)
     }
 
+    /// Where a name with this head may stand: at this place, or where the first one does.
+    fn guess(&self, head: u64, next: usize) -> usize {
+        match self.heads.get(next) {
+            Some(other) if *other == head => next,
+            _ => place_of(head, &self.heads),
+        }
+    }
+
     /// Where a destination stands, past all names if it isn't there. One binary search.
-    fn search(&self, destination: &PidName) -> usize
+    fn search(&self, destination: &PidText) -> usize
         ensures { IsPlace self.now.names destination.now result }
     {
-        match self.names.binary_search(destination) {
+        match self
+            .names
+            .binary_search_by(|name| name.cmp_bytes(destination.as_bytes()))
+        {
             Ok(place) => place,
             Err(_) => self.names.len(),
         }
@@ -102,11 +118,19 @@ impl Destinations {
 }
 
 /// Whether a destination stands at a place.
-pub(crate) fn stands_at(destinations: &[PidName], place: usize, destination: &PidName) -> bool
+pub(crate) fn stands_at(destinations: &[PidName], place: usize, destination: &PidText) -> bool
     ensures { result ≡ true → slice_get destinations.now place ≡ Some destination.now }
 {
     match destinations.get(place) {
-        Some(name) => name == destination,
+        Some(name) => name.matches(destination.as_bytes()),
         None => false,
     }
+}
+
+fn heads_of(alloc: Global, names: &[PidName]) -> Result<Vec<u64>, AllocError> {
+    let mut heads = Vec::with_capacity(alloc, names.len())?;
+    for name in names {
+        heads.push(head_of(&PidText::of(name)))?;
+    }
+    Ok(heads)
 }

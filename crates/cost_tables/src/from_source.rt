@@ -11,6 +11,7 @@ ghost use Rattle.cost_tables.specs.Tables.{Name, cost_given, cost_to, costs_from
 
 use crate::destinations::{Destinations, stands_at};
 use crate::numbers::Numbers;
+use crate::pid_text::PidText;
 use alto_names::{Metric, NetName, PidName};
 use alto_rows::{Key, RowStore, Span, Value, Within, rows_in};
 use std::alloc::{AllocError, Global};
@@ -99,7 +100,7 @@ impl FromSource {
     /// Finds where destinations stand, as the list does.
     pub(crate) fn find(
         &self,
-        destinations: &[PidName],
+        destinations: &[PidText],
         places: &mut Vec<usize>,
     ) -> Result<(), AllocError>
         ensures { OnOk result (ArePlaces self.now.1.list.names destinations.now places.new.items) }
@@ -141,7 +142,7 @@ fn listed<R: RowStore>(
     }
     let (destinations, costs) = costs_from(alloc, rows, net, metric, source)?;
     Ok((
-        Arc::new(alloc, Destinations::new(number, destinations))?,
+        Arc::new(alloc, Destinations::new(alloc, number, destinations)?)?,
         costs,
     ))
 }
@@ -181,7 +182,7 @@ fn costs_walked_to<R: RowStore>(
     let mut costs = Vec::with_capacity(alloc, destinations.len())?;
     while let Some(row) = walk.next() {
         if let (Key::Cost(_, _, _, destination), Value::Num(cost)) = (&row.0, &row.1) {
-            if !stands_at(destinations, costs.len(), destination) {
+            if !stands_at(destinations, costs.len(), &PidText::of(destination)) {
                 return Ok(None);
             }
             costs.push(*cost)?;

@@ -14,9 +14,11 @@ mod destinations;
 mod from_source;
 mod heads;
 mod numbers;
+mod pid_text;
 mod places;
 mod sources;
 mod table;
 mod tables;
 
+pub use pid_text::PidText;
 pub use tables::CostTables;

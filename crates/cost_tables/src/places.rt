@@ -5,7 +5,7 @@ ghost use Rattle.cost_tables.specs.Lists.{ArePlacesFor, HaveNumbers, Sources};
 ghost use Rattle.cost_tables.specs.Tables.{Name};
 
 use crate::from_source::FromSource;
-use alto_names::PidName;
+use crate::pid_text::PidText;
 use std::alloc::{AllocError, Global};
 use std::marker::Model;
 
@@ -47,7 +47,7 @@ impl Places {
     pub(crate) fn find(
         &mut self,
         from: &FromSource,
-        destinations: &[PidName],
+        destinations: &[PidText],
     ) -> Result<(), AllocError>
         ensures found { OnOk result (self.new.number ≡ Some from.now.1.list.number) }
         ensures right { (sources : Sources) (test : Name → Bool) → HaveNumbers sources

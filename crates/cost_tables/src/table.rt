@@ -13,7 +13,8 @@ ghost use Rattle.cost_tables.specs.Renewed as made;
 ghost use Rattle.cost_tables.specs.Tables.{TellsCosts, costs_from};
 
 use crate::from_source::FromSource;
-use crate::heads::{head_of, heads_of};
+use crate::heads::{head_of, place_of};
+use crate::pid_text::PidText;
 use crate::sources::{sources_in, sources_written};
 use alto_names::{Metric, NetName, PidName};
 use alto_rows::{RowStore, Write};
@@ -94,7 +95,7 @@ impl Table {
 
     /// The costs from a source, if it has any. One search among numbers that lie together, and one comparison of two
     /// names, where no other source's name begins with the same eight bytes; else one binary search more.
-    pub(crate) fn from(&self, source: &PidName) -> Option<&FromSource>
+    pub(crate) fn from(&self, source: &PidText) -> Option<&FromSource>
         ensures from { option_map (λ from. from.now.1) result ≡ lookup (is_at (name_cmp source.now)) self.now }
         ensures lists { HaveNumbers self.now }
     {
@@ -105,14 +106,13 @@ impl Table {
     }
 
     /// The costs from a source that stands where the first bytes of its name say.
-    fn guessed(&self, source: &PidName) -> Option<&FromSource>
+    fn guessed(&self, source: &PidText) -> Option<&FromSource>
         ensures from { IfSome result (λ from. lookup (is_at (name_cmp source.now)) self.now ≡ Some from.now.1) }
         ensures lists { HaveNumbers self.now }
     {
-        let head = head_of(source);
-        let place = self.heads.partition_point(|other| *other < head);
+        let place = place_of(head_of(source), &self.heads);
         let from = self.sources.get(place)?;
-        if from.source() == source {
+        if from.source().matches(source.as_bytes()) {
             Some(from)
         } else {
             None
@@ -120,13 +120,13 @@ impl Table {
     }
 
     /// The costs from a source, if it has any. One binary search.
-    fn search(&self, source: &PidName) -> Option<&FromSource>
+    fn search(&self, source: &PidText) -> Option<&FromSource>
         ensures from { option_map (λ from. from.now.1) result ≡ lookup (is_at (name_cmp source.now)) self.now }
         ensures lists { HaveNumbers self.now }
     {
         let place = self
             .sources
-            .binary_search_by(|from| from.source().cmp(source))
+            .binary_search_by(|from| from.source().cmp_bytes(source.as_bytes()))
             .ok()?;
         let from = self.sources.get(place)?;
         Some(from)
@@ -163,6 +163,15 @@ impl Table {
             next,
         })
     }
+}
+
+/// The first bytes of the names of sources.
+fn heads_of(alloc: Global, sources: &[Arc<FromSource>]) -> Result<Vec<u64>, AllocError> {
+    let mut heads = Vec::with_capacity(alloc, sources.len())?;
+    for from in sources {
+        heads.push(head_of(&PidText::of(from.source())))?;
+    }
+    Ok(heads)
 }
 
 /// Shares the sources that stand before a name, and gives those behind it.

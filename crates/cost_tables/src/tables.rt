@@ -10,6 +10,7 @@ ghost use Rattle.cost_tables.specs.Lists.{table_of};
 ghost use Rattle.cost_tables.specs.Tables.{AreCostsOf, TellsCosts, costs_between, costs_of, is_of};
 
 use crate::costs_between::costs_between;
+use crate::pid_text::PidText;
 use crate::table::Table;
 use alto_names::{Metric, NetName, PidName};
 use alto_rows::{Resource, RowStore, Write};
@@ -106,8 +107,8 @@ impl CostTables {
         alloc: Global,
         net: &NetName,
         metric: &Metric,
-        sources: &[PidName],
-        destinations: &[PidName],
+        sources: &[PidText],
+        destinations: &[PidText],
     ) -> Result<Vec<Vec<Option<u64>>>, AllocError>
         ensures { IfOk result (λ costs. map (λ row. row.items) costs.items
             ≡ costs_between (costs_of self.now net.now metric.now) sources.now destinations.now) }

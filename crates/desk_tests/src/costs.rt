@@ -3,6 +3,7 @@ use crate::desks::{MemDesk, imported, new_desk};
 use crate::draws::Draws;
 use alto_names::{Metric, NetName, PidName};
 use alto_rows::{Key, RowStore, Value};
+use cost_tables::PidText;
 use std::alloc::{AllocError, Global};
 use std::test::Fail;
 
@@ -25,6 +26,16 @@ pid-add,metro,p7,,,
 pid-add,metro,p8,,,
 ";
 
+/// A cost, which 4 bytes seldom don't hold.
+fn cost_drawn(draws: &mut Draws) -> u64 {
+    let cost = u64::from(draws.draw() % 100);
+    if draws.draw() % 20 == 0 {
+        4_294_967_295 + cost
+    } else {
+        cost
+    }
+}
+
 /// An import of so many edits: most put a cost, and some take one away.
 fn import_of(alloc: Global, draws: &mut Draws, count: u32) -> Result<String, AllocError> {
     let mut body = String::new(alloc);
@@ -35,7 +46,7 @@ fn import_of(alloc: Global, draws: &mut Draws, count: u32) -> Result<String, All
             "routingcost"
         };
         let (source, destination) = (draws.draw() % PIDS, draws.draw() % PIDS);
-        let cost = draws.draw() % 100;
+        let cost = cost_drawn(draws);
         let line = match draws.draw() % 30 {
             0 => format!(in alloc; "cost-del,metro,{metric},p{source},p{destination},\n")?,
             _ => format!(in alloc; "cost-put,metro,{metric},p{source},p{destination},{cost}\n")?,
@@ -55,6 +66,14 @@ fn pids(alloc: Global) -> Result<Vec<PidName>, Fail> {
     Ok(pids)
 }
 
+fn texts_of(alloc: Global, pids: &[PidName]) -> Result<Vec<PidText<'_>>, AllocError> {
+    let mut texts = Vec::with_capacity(alloc, pids.len())?;
+    for pid in pids {
+        texts.push(PidText::of(pid))?;
+    }
+    Ok(texts)
+}
+
 /// The cost that a row gives.
 fn cost_of(rows: &impl RowStore, key: &Key) -> Option<u64> {
     match rows.get(key) {
@@ -68,12 +87,13 @@ fn compared(alloc: Global, desk: &MemDesk) -> Result<String, Fail> {
     let net = NetName::read(alloc, b"metro")?;
     let front = desk.front();
     let pids = pids(alloc)?;
+    let texts = texts_of(alloc, &pids)?;
     let mut count: u32 = 0;
     for word in ["hopcount", "latency", "routingcost"] {
         let metric = Metric::read(alloc, word.as_bytes())?;
         let told = front
             .costs()
-            .costs_between(alloc, &net, &metric, &pids, &pids)?;
+            .costs_between(alloc, &net, &metric, &texts, &texts)?;
         for (costs, source) in told.iter().zip(&pids) {
             for (cost, destination) in costs.iter().zip(&pids) {
                 let (src, dst) = (source.clone()?, destination.clone()?);

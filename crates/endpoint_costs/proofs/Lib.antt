@@ -1,5 +1,4 @@
 pub mod ReadingLemmas
 pub mod OnceLemmas
-pub mod PlaceLemmas
-pub mod SpotLemmas
+pub mod EntryLemmas
 pub mod TextLemmas

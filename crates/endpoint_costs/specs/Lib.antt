@@ -2,4 +2,4 @@ pub mod Reading
 pub mod Ask
 pub mod Costs
 pub mod Laws
-pub mod Spots
+pub mod Entries

@@ -1,22 +1,23 @@
-ghost use Rattle.std.specs.Prelude.{◌≡◌, ◌++◌, codes, IfOk, OnOk};
+ghost use Rattle.std.specs.Prelude.{◌≡◌, ◌++◌, List, false, codes, IfOk, OnOk, map};
 ghost use Rattle.std.specs.List.{AllByRecursion};
-ghost use Rattle.serde_json.specs.Written.{compact_text};
+ghost use Rattle.serde_json.specs.Written.{compact_text, members_text};
+ghost use Rattle.json_tree.specs.Tree.{members_in_order};
 ghost use Rattle.alto_rows.specs.Good.{AreGood};
 ghost use Rattle.alto_rows.specs.Prefixes.{prefixes_in};
+ghost use Rattle.alto_maps.specs.Shape.{Name};
 ghost use Rattle.alto_maps.specs.Writing.{AddsMember};
 ghost use Rattle.cost_tables.specs.Tables.{AreCostsOf};
+ghost use Rattle.cost_filters.specs.Text.{member_start};
 ghost use Rattle.endpoint_costs.specs.Costs.{endpoint_costs, endpoint_meta, pairs_object};
-ghost use Rattle.endpoint_costs.specs.Spots.{IsWritten};
+ghost use Rattle.endpoint_costs.specs.Entries.{IsWritten, groups_at};
 
 use crate::ask::EndAsk;
-use crate::destinations::Destinations;
 use crate::endpoint::{Endpoint, endpoints_at};
-use crate::groups::push_groups;
-use crate::spots::{pids_of, spots_of};
+use crate::entries::{Entry, entries_of, pids_of, starts_of};
 use alto_addr::Addr;
 use alto_names::NetName;
 use alto_rows::RowStore;
-use cost_filters::{Pairs, write_types};
+use cost_filters::{MemberStarts, Pairs, PairsBetween, push_group, write_types};
 use cost_tables::CostTables;
 use json::Writer;
 use pid_prefix::RangeTable;
@@ -30,9 +31,8 @@ const FIRST_ROOM: usize = 4096;
 /// written without a tree.
 ///
 /// For each ordinal type one walk over its metric. For each address one look-up in the table, and one sort of the
-/// addresses. Then the distinct PIDs make their pairs once: for each of the sources and each type that is asked for or
-/// tested one binary search for the source, and one look for each destination where the source before has the same
-/// destinations.
+/// addresses. Then for each of the sources and each type that is asked for or tested one binary search for its PID, and
+/// one look for each destination where the source before has the same destinations.
 pub fn endpoint_cost_text<R: RowStore>(
     alloc: Global,
     rows: &R,
@@ -78,8 +78,8 @@ fn push_section<R: RowStore>(
     tables: &CostTables,
     net: &NetName,
     ask: &EndAsk,
-    srcs: Vec<Endpoint>,
-    dsts: Vec<Endpoint>,
+    srcs: Vec<Endpoint<'_>>,
+    dsts: Vec<Endpoint<'_>>,
     out: &mut Vec<u8>,
 ) -> Result<(), AllocError>
     requires good { AreGood (R.rows rows.now) }
@@ -87,7 +87,7 @@ fn push_section<R: RowStore>(
     requires srcs { AllByRecursion (IsWritten (prefixes_in (R.rows rows.now) net.now)) srcs.items }
     requires dsts { AllByRecursion (IsWritten (prefixes_in (R.rows rows.now) net.now)) dsts.items }
     ensures { OnOk result (out.new.items ≡ out.old.items
-        ++ compact_text (pairs_object (R.rows rows.now) net.now ask.now srcs.items dsts.items)) }
+        ++ compact_text (pairs_object (R.rows rows.now) net.now ask.now srcs.entry.items dsts.entry.items)) }
 {
     let pairs = Pairs::new(
         alloc,
@@ -98,12 +98,31 @@ fn push_section<R: RowStore>(
         &ask.tested,
         &ask.alternatives,
     )?;
-    let from = pids_of(alloc, &srcs)?;
-    let to = pids_of(alloc, &dsts)?;
-    let found = pairs.between(alloc, &from, &to)?;
-    let srcs = spots_of(alloc, srcs, &from)?;
-    let dsts = spots_of(alloc, dsts, &to)?;
-    let ends = Destinations::of(alloc, dsts)?;
+    let srcs = entries_of(alloc, srcs)?;
+    let dsts = entries_of(alloc, dsts)?;
+    let starts = starts_of(alloc, &dsts)?;
+    let between = pairs.between(alloc, &pids_of(alloc, &srcs)?, &pids_of(alloc, &dsts)?)?;
     out.push(b'{')?;
-    push_groups(ask.multi, &srcs, &ends, &found, out)
+    push_groups(ask.multi, &srcs, &starts, &between, out)
+}
+
+/// Puts the groups of the sources that have a pair, with the brace behind them.
+fn push_groups(
+    multi: bool,
+    srcs: &[Entry],
+    dsts: &MemberStarts,
+    pairs: &PairsBetween,
+    out: &mut Vec<u8>,
+) -> Result<(), AllocError>
+    ensures { OnOk result ((names : List Name) → dsts.now ≡ map member_start names
+        → out.new.items ≡ out.old.items
+        ++ members_text false (members_in_order (groups_at multi names srcs.now pairs.now))) }
+{
+    let mut later = false;
+    for (at, src) in srcs.iter().enumerate() {
+        let found = pairs.from_source(at);
+        later = push_group(multi, src.0.as_str(), dsts, &found, later, out)?;
+    }
+    out.push(b'}')?;
+    Ok(())
 }

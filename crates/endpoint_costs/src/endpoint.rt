@@ -2,30 +2,30 @@ ghost use Rattle.std.specs.Prelude.{◌≡◌, IfOk, IfSome, option_map};
 ghost use Rattle.std.specs.List.{AllByRecursion};
 ghost use Rattle.alto_rows.specs.Entities.{WritesTypedAddr, typed_addr_text};
 ghost use Rattle.endpoint_costs.specs.Costs.{addrs_at, endpoint_of, endpoints_of};
-ghost use Rattle.endpoint_costs.specs.Spots.{IsWritten};
+ghost use Rattle.endpoint_costs.specs.Entries.{IsWritten};
 
 use alto_addr::Addr;
-use alto_names::PidName;
 use alto_rows::print_typed_addr;
+use cost_tables::PidText;
 use json_tree::Name;
 use pid_prefix::RangeTable;
 use std::alloc::{AllocError, Global};
 
 /// An address in a PID.
 #[derive(Drop)]
-pub(crate) struct Endpoint {
+pub(crate) struct Endpoint<'a> {
     /// What is written of the address behind its type.
     pub(crate) text: Name,
-    pub(crate) pid: PidName,
+    pub(crate) pid: PidText<'a>,
 }
 
 /// The endpoints at one end: those of the addresses that are given, else that of the client's own, if it is known.
-pub(crate) fn endpoints_at(
+pub(crate) fn endpoints_at<'a>(
     alloc: Global,
-    table: &RangeTable,
+    table: &'a RangeTable,
     given: &Option<Vec<Addr>>,
     peer: Option<Addr>,
-) -> Result<Vec<Endpoint>, AllocError>
+) -> Result<Vec<Endpoint<'a>>, AllocError>
     ensures are { IfOk result (λ ends. ends.items
         ≡ endpoints_of table.now (addrs_at (option_map (λ addrs. addrs.items) given.now) peer)) }
     ensures written { IfOk result (λ ends. AllByRecursion (IsWritten table.now) ends.items) }
@@ -40,11 +40,11 @@ pub(crate) fn endpoints_at(
 }
 
 /// Those of addresses that are in a PID. One look-up for each.
-fn endpoints_of(
+fn endpoints_of<'a>(
     alloc: Global,
-    table: &RangeTable,
+    table: &'a RangeTable,
     addrs: &[Addr],
-) -> Result<Vec<Endpoint>, AllocError>
+) -> Result<Vec<Endpoint<'a>>, AllocError>
     ensures are { IfOk result (λ ends. ends.items ≡ endpoints_of table.now addrs.now) }
     ensures written { IfOk result (λ ends. AllByRecursion (IsWritten table.now) ends.items) }
 {
@@ -58,18 +58,18 @@ fn endpoints_of(
 }
 
 /// The endpoint of an address that is in a PID.
-fn endpoint_of(
+fn endpoint_of<'a>(
     alloc: Global,
-    table: &RangeTable,
+    table: &'a RangeTable,
     addr: Addr,
-) -> Result<Option<Endpoint>, AllocError>
+) -> Result<Option<Endpoint<'a>>, AllocError>
     ensures is { IfOk result (λ end. end ≡ endpoint_of table.now addr) }
     ensures written { IfOk result (λ end. IfSome end (IsWritten table.now)) }
 {
     match table.pid_of(&addr) {
         Some(pid) => Ok(Some(Endpoint {
             text: text_of(alloc, addr)?,
-            pid: pid.clone()?,
+            pid: PidText::of(pid),
         })),
         None => Ok(None),
     }

@@ -13,11 +13,9 @@
 mod addrs;
 mod ask;
 mod costs;
-mod destinations;
 mod endpoint;
-mod groups;
+mod entries;
 mod laws;
-mod spots;
 
 pub use ask::{EndAsk, read_end_ask};
 pub use costs::endpoint_cost_text;

@@ -1,4 +1,4 @@
-use Rattle.std.proofs.Common.{◌∙◌, rules}
+use Rattle.std.proofs.Common.{rules}
 use Rattle.std.proofs.lemmas.Result.{IfOk-weaker}
 use Rattle.cost_filters.specs.Columns.{reached}
 use Rattle.cost_filters.proofs.TextLemmas.{few_rise, rising_set, set_is}
@@ -14,7 +14,7 @@ returns-then-columns-lt2 g c =
 pub returns : goal.returns
 returns g c =
     let rows = g.R.RowStore.rows c.args.rows.now in
-    IfOk-weaker c.distinct.result _ _
-    (λ set is. set_is set.items c.deref.result.now (reached rows c.args.net.now c.args.columns.now c.args.src.now)
-    is (c.deref.ensures.value ∙ c.in_ok-names.ensures))
-    c.distinct.ensures
+    IfOk-weaker c.distinct_names.result _ _
+    (λ set is. set_is set.items c.in_ok-names.names.items
+    (reached rows c.args.net.now c.args.columns.now c.args.src.now) is c.in_ok-names.ensures)
+    c.distinct_names.ensures

@@ -14,7 +14,7 @@ pub loop-at-preserved : goal.loop-at-preserved
 loop-at-preserved g c =
     let l = c.loop-at in
     let multi = c.args.multi in
-    let names = c.args.names.items in
+    let names = c.args.dsts.now in
     let pairs = c.args.pairs.now in
     let src = c.index-srcs-at.result in
     let srcs = c.args.srcs.now in
@@ -24,17 +24,18 @@ loop-at-preserved g c =
     drop_more srcs l.at src c.loop-at-test.true ∙ ap (λ (name : Name). name ∷ left) here in
     let group = group_made multi (Some names) pairs in
     let row : Name → Found = λ src. map (pair_costs pairs src) names in
-    let all : c.in_ok-between.between ≡ map row srcs =
-    c.in_ok-between.ensures
-    ∙ ap (λ (dsts : List Name). map (λ src. map (pair_costs pairs src) dsts) srcs)
-    (c.names.ensures ∙ c.in_ok-dsts.ensures) in
-    let found : pairs_at c.in_ok-between.between l.at ≡ row src =
-    ap (λ (all : List Found). pairs_at all l.at) all ∙ (made_at row srcs l.at src c.loop-at-test.true ∙ ap row here) in
-    let value : found_object multi c.in_ok-dsts.dsts (pairs_at c.in_ok-between.between l.at) ≡ group src =
-    (λ i. found_object multi (c.in_ok-dsts.ensures i) (found i))
-    ∙ object_found (pair_costs pairs src) multi names c.requires in
-    let put : PutsIfAny src (group src) l.later l.out.items c.in_ok-later.later c.push_found.new.out.items =
-    subst (λ (d : Option Data). PutsIfAny src d l.later l.out.items c.in_ok-later.later c.push_found.new.out.items)
-    value c.in_ok-later.ensures in
+    let found : c.from_source-found.result ≡ row src =
+    c.from_source-found.ensures
+    ∙ (ap (λ (all : List Found). pairs_at all l.at) c.in_ok-between.ensures
+    ∙ (made_at row srcs l.at src c.loop-at-test.true ∙ ap row here)) in
+    let value : found_object multi names c.from_source-found.result ≡ group src =
+    ap (found_object multi names) found ∙ object_found (pair_costs pairs src) multi names c.requires in
+    let name : c.as_str.result.now ≡ src = c.as_str.ensures in
+    let put : PutsIfAny src (group src) l.later l.out.items c.in_ok-later.later c.push_group.new.out.items =
+    subst (λ (d : Option Data). PutsIfAny src d l.later l.out.items c.in_ok-later.later c.push_group.new.out.items)
+    value
+    (subst (λ (of : Name). PutsIfAny of (found_object multi names c.from_source-found.result) l.later l.out.items
+    c.in_ok-later.later c.push_group.new.out.items) name
+    (c.in_ok-later.ensures names c.in_ok-starts.ensures)) in
     group_more group src (drop l.at srcs) left l.later c.in_ok-later.later l.out.items
-    c.push_found.new.out.items _ step put l.invariant
+    c.push_group.new.out.items _ step put l.invariant

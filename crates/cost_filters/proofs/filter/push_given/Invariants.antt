@@ -9,6 +9,6 @@ use Rattle.cost_filters.proofs.filter.push_given.Given as goal
 -- what is there, and the groups of the sources that are left, make all groups
 abbrev pub invariant-loop-at : goal.invariant-loop-at
 invariant-loop-at g l =
-    let group = group_made l.multi (Some l.fn.names.items) l.pairs in
+    let group = group_made l.multi (Some l.dsts) l.pairs in
     l.out.items ++ members_text l.later (members_in_order (valued group (drop l.at l.srcs)))
     ≡ l.initial.out.items ++ members_text false (members_in_order (valued group l.srcs))

@@ -15,13 +15,17 @@ returns g c =
     let src = c.args.src.now in
     let dsts = c.args.dsts.now in
     let old = c.args.out.now.items in
-    let new = c.push_found-after.new.out.items in
+    let new = c.push_group.new.out.items in
     let row : List Name → Name → Found = λ names src. map (pair_costs pairs src) names in
+    let names : c.deref.result.now ≡ dsts = c.deref.ensures.value ∙ (c.in_ok-names.ensures ∙ c.names.ensures) in
     let all : c.in_ok-between.between ≡ row dsts src ∷ [] =
-    c.in_ok-between.ensures
-    ∙ ((λ i. map (row (c.names.ensures i)) (c.from_ref.ensures.value i))) in
-    let found : pairs_at c.in_ok-between.between 0 ≡ row dsts src = ap (λ (all : List Found). pairs_at all 0) all in
-    IfOk-weaker c.push_found-after.result _ _
+    c.in_ok-between.ensures ∙ ((λ i. map (row (names i)) (c.from_ref.ensures.value i))) in
+    let found : c.from_source-found.result ≡ row dsts src =
+    c.from_source-found.ensures ∙ ap (λ (all : List Found). pairs_at all 0) all in
+    IfOk-weaker c.push_group.result _ _
     (λ (after : Bool) put.
-    subst (λ (row : Found). PutsIfAny src (found_object multi dsts row) c.args.later old after new) found put)
-    c.push_found-after.ensures
+    subst (λ (of : Name). PutsIfAny of (found_object multi dsts (row dsts src)) c.args.later old after new)
+    c.as_str.ensures
+    (subst (λ (row : Found). PutsIfAny c.as_str.result.now (found_object multi dsts row) c.args.later old after new) found
+    (put dsts c.starts.ensures)))
+    c.push_group.ensures

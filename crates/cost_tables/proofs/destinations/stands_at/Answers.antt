@@ -10,4 +10,5 @@ returns-in-Some c found =
     let name = c.in-Some.name.now in
     let item = c.in-Some.ensures.lookup in
     slice_get_read all (length all) c.args.place name refl item.3.0 item.1
-    ∙ ap (λ (name : Name). Some name) (one_name name c.args.destination.now (sym c.eq.ensures ∙ found))
+    ∙ ap (λ (name : Name). Some name) (one_name name c.args.destination.now
+    (rw c.as_bytes.ensures.value at (sym c.matches.ensures ∙ found)))

@@ -22,7 +22,7 @@ loop-row-preserved-in-Num-1 g c =
     let row = c.in-Some.row.now in
     let count : c.len.result ≡ length costs = search rules in
     let there : slice_get dsts (length costs) ≡ Some dst =
-    rw (← count) (c.stands_at.ensures c.if-not-stands_at.false) in
+    rw (← count, ← c.of.ensures) (c.stands_at.ensures c.if-not-stands_at.false) in
     let given : cost_given row ≡ Some (dst, cost) = rw (c.in-Cost-Num.is-0, c.in-Cost-Num.is-1) refl in (
       next_within dsts costs more dst cost there c.in_ok-push.ensures.items,
       walked_next dsts costs more dst cost row c.next.new.self c.loop-row.walk (filter_map cost_given c.args.walk.now)

@@ -1,7 +1,7 @@
 use Rattle.std.proofs.Common.{◌≡◌, ◌++◌, drop}
 use Rattle.std.specs.List.{AllByRecursion}
 use Rattle.endpoint_costs.specs.Costs.{endpoints_of}
-use Rattle.endpoint_costs.specs.Spots.{IsWritten}
+use Rattle.endpoint_costs.specs.Entries.{IsWritten}
 use Rattle.endpoint_costs.proofs.endpoint.endpoints_of.Given as goal
 
 -- the endpoints that are there, and those of the addresses that are left, are all

@@ -11,7 +11,7 @@ returns-then-stands_at c =
     let names = c.self.inside.names.items in
     let dst = c.args.destination.now in
     let is = ap (λ list. list.names) c.self.view_is in
-    let there : slice_get names c.args.guess ≡ Some dst =
+    let there : slice_get names c.guess-guess.result ≡ Some dst =
     rw (← c.deref.ensures.value) (c.stands_at.ensures c.if-stands_at.true) in
-    subst (λ (all : List Name). IsPlace all dst c.args.guess) is
-    (place_of_name names c.args.guess dst dst c.self.invariant there (same_name_itself dst))
+    subst (λ (all : List Name). IsPlace all dst c.guess-guess.result) is
+    (place_of_name names c.guess-guess.result dst dst c.self.invariant there (same_name_itself dst))

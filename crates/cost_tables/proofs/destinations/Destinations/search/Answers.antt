@@ -1,5 +1,7 @@
 -- The search is by the names.
-use Rattle.std.proofs.Common.{◌≡◌, List, ap, length, rules, subst}
+use Rattle.std.proofs.Common.{◌≡◌, List, ap, length, of_calls, rules, subst}
+use Rattle.std.proofs.lemmas.Fn.{always_returns_same}
+use Rattle.alto_rows.specs.Order.{name_cmp}
 use Rattle.cost_tables.specs.Lists.{IsPlace}
 use Rattle.cost_tables.specs.Tables.{Name}
 use Rattle.cost_tables.proofs.PairLemmas.{place_found, place_missed}
@@ -11,9 +13,11 @@ returns-in-Ok c =
     let dst = c.args.destination.now in
     let is : names ≡ c.args.self.now.names = ap (λ list. list.names) c.self.view_is in
     let lies = c.deref.ensures.value in
+    let searched = c.binary_search_by.ensures.position (λ (name : Name). name_cmp name dst)
+    (always_returns_same _ _ _ (λ a r f k. search (rules, of_calls))) in
     subst (λ (all : List Name). IsPlace all dst c.in-Ok.place) is
-    (place_found names dst c.binary_search.result c.in-Ok.place c.self.invariant
-    (rw (← lies) c.binary_search.ensures.bound) (rw (← lies) c.binary_search.ensures.position) c.in-Ok.is)
+    (place_found names dst c.binary_search_by.result c.in-Ok.place c.self.invariant
+    (rw (← lies) c.binary_search_by.ensures.bound) (rw (← lies) searched) c.in-Ok.is)
 
 pub returns-in-Err : goal.returns-in-Err
 returns-in-Err c =
@@ -21,7 +25,9 @@ returns-in-Err c =
     let dst = c.args.destination.now in
     let is : names ≡ c.args.self.now.names = ap (λ list. list.names) c.self.view_is in
     let lies = c.deref.ensures.value in
+    let searched = c.binary_search_by.ensures.position (λ (name : Name). name_cmp name dst)
+    (always_returns_same _ _ _ (λ a r f k. search (rules, of_calls))) in
     let past : c.len.result ≡ length names = search rules in
     subst (λ (all : List Name). IsPlace all dst c.len.result) is
-    (rw past (place_missed names dst c.binary_search.result c.in-Err.field-0 c.self.invariant
-    (rw (← lies) c.binary_search.ensures.bound) (rw (← lies) c.binary_search.ensures.position) c.in-Err.is))
+    (rw past (place_missed names dst c.binary_search_by.result c.in-Err.field-0 c.self.invariant
+    (rw (← lies) c.binary_search_by.ensures.bound) (rw (← lies) searched) c.in-Err.is))

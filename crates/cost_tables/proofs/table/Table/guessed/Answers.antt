@@ -10,10 +10,10 @@ use Rattle.cost_tables.specs.Lists.{Sources}
 use Rattle.cost_tables.proofs.SearchLemmas.{lookup_at}
 use Rattle.cost_tables.proofs.table.Table.guessed.Goals as goal
 
-pub returns-then-eq-clause-from : goal.returns-then-eq-clause-from
-returns-then-eq-clause-from c =
+pub returns-then-matches-clause-from : goal.returns-then-matches-clause-from
+returns-then-matches-clause-from c =
     let q = c.args.source.now in
-    let place = c.partition_point-place.result in
+    let place = c.place_of-place.result in
     let from = c.in_ok-from.from.now in
     let inside : Sources = map arc_value c.self.inside.sources.items in
     let all = c.deref-2.result.now in
@@ -23,7 +23,7 @@ returns-then-eq-clause-from c =
     rw (← c.deref-2.ensures.value, slice_get-map arc_value all place, here) refl in
     let name : (arc_value from).0 ≡ q =
     one_name (arc_value from).0 q
-    (rw (c.source.ensures, c.deref-3.ensures) at (sym c.eq.ensures ∙ c.if-eq.true)) in
-    rw c.deref-then-eq.ensures
+    (rw (c.source.ensures, c.deref-3.ensures, c.as_bytes.ensures.value) at (sym c.matches.ensures ∙ c.if-matches.true)) in
+    rw c.deref-then-matches.ensures
     (subst (λ (sources : Sources). lookup (is_at (name_cmp q)) sources ≡ Some (arc_value from).1) c.self.view_is
     (lookup_at inside q place (arc_value from) c.self.invariant.0 there name))

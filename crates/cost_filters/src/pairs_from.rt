@@ -1,0 +1,147 @@
+//! The pairs from one source.
+ghost use Rattle.std.specs.Prelude.{◌≡◌, ◌++◌, ◌∷◌, [], IfOk, OnOk, Some, is_some, map, option_map, slice_get};
+ghost use Rattle.std.specs.List.{list_any};
+ghost use Rattle.serde_json.specs.Written.{compact_text};
+ghost use Rattle.alto_maps.specs.Shape.{Name};
+ghost use Rattle.cost_filters.specs.Between.{one_cost, pairs_at};
+ghost use Rattle.cost_filters.specs.Filter.{costs_data};
+ghost use Rattle.cost_filters.specs.Pairs.{if_there};
+ghost use Rattle.cost_filters.specs.Text.{PutsIfAny, member_start};
+
+use crate::pairs_between::PairsBetween;
+use crate::starts::push_made;
+use crate::text::push_cost;
+use std::alloc::AllocError;
+use std::marker::Model;
+
+/// The pairs from one source. A contract sees for each destination the costs by the asked types, in their order, `None`
+/// where it is no pair.
+#[derive(Drop)]
+pub struct PairsFrom<'a, 'b> {
+    found: Found<'a, 'b>,
+}
+
+#[derive(Drop)]
+enum Found<'a, 'b> {
+    /// Each has one cost, and that is told as it is.
+    Costs(&'a [Option<u64>]),
+    /// Those of the source at a place.
+    At(&'a PairsBetween<'b>, usize),
+}
+
+impl<'a, 'b> Model for PairsFrom<'a, 'b> {
+    ghost use Rattle.cost_filters.specs.Between.{Found};
+    ghost use Rattle.cost_filters.specs.PairsFrom.{found_in};
+
+    ghost Value = { Found };
+
+    ghost view = { λ pairs. found_in pairs.found };
+}
+
+impl<'a, 'b> PairsFrom<'a, 'b> {
+    /// Those with these costs.
+    pub(crate) fn of_costs(costs: &'a [Option<u64>]) -> PairsFrom<'a, 'b>
+        ensures { result ≡ map one_cost costs.now }
+    {
+        PairsFrom {
+            found: Found::Costs(costs),
+        }
+    }
+
+    /// Those of the source at a place.
+    pub(crate) fn at(pairs: &'a PairsBetween<'b>, src: usize) -> PairsFrom<'a, 'b>
+        ensures { result ≡ pairs_at pairs.now src }
+    {
+        PairsFrom {
+            found: Found::At(pairs, src),
+        }
+    }
+}
+
+impl PairsFrom<'_, '_> {
+    /// Whether there is one.
+    pub fn has_pair(&self) -> bool
+        ensures { result ≡ list_any (λ pair. is_some pair) self.now }
+    {
+        match &self.found {
+            Found::Costs(costs) => has_cost(costs),
+            Found::At(pairs, src) => pairs.has_pair(*src),
+        }
+    }
+
+    /// Whether the destination at this place makes one.
+    pub fn is_pair(&self, dst: usize) -> bool
+        ensures { result ≡ is_some (if_there (slice_get self.now dst)) }
+    {
+        match &self.found {
+            Found::Costs(costs) => cost_at(costs, dst).is_some(),
+            Found::At(pairs, src) => pairs.is_pair(*src, dst),
+        }
+    }
+
+    /// Puts the costs of the destination at this place as a member, if it makes a pair, whose name was made by
+    /// `MemberStarts`: in the form of several a list, else the one. Tells whether a member stands before the next.
+    pub fn push_pair(
+        &self,
+        multi: bool,
+        start: &[u8],
+        dst: usize,
+        later: bool,
+        out: &mut Vec<u8>,
+    ) -> Result<bool, AllocError>
+        ensures { IfOk result (λ after. (name : Name) → start.now ≡ member_start name
+            → PutsIfAny name (option_map (costs_data multi) (if_there (slice_get self.now dst)))
+            later out.old.items after out.new.items) }
+    {
+        match &self.found {
+            Found::Costs(costs) => push_one(multi, start, cost_at(costs, dst), later, out),
+            Found::At(pairs, src) => pairs.push_pair(multi, start, *src, dst, later, out),
+        }
+    }
+}
+
+/// The cost at a place.
+fn cost_at(costs: &[Option<u64>], dst: usize) -> Option<u64>
+    ensures { result ≡ if_there (slice_get costs.now dst) }
+{
+    *costs.get(dst)?
+}
+
+/// Whether there is a cost.
+fn has_cost(costs: &[Option<u64>]) -> bool
+    ensures { result ≡ list_any (λ cost. is_some cost) costs.now }
+{
+    costs.iter().any(|cost| cost.is_some())
+}
+
+/// Puts a cost as a member, if there is one.
+fn push_one(
+    multi: bool,
+    start: &[u8],
+    cost: Option<u64>,
+    later: bool,
+    out: &mut Vec<u8>,
+) -> Result<bool, AllocError>
+    ensures { IfOk result (λ after. (name : Name) → start.now ≡ member_start name
+        → PutsIfAny name (option_map (costs_data multi) (one_cost cost)) later out.old.items after out.new.items) }
+{
+    if cost.is_none() {
+        return Ok(later);
+    }
+    push_made(start, later, out)?;
+    push_costs_of_one(multi, cost, out)?;
+    Ok(true)
+}
+
+/// Puts one cost: in the form of several as a list.
+fn push_costs_of_one(multi: bool, cost: Option<u64>, out: &mut Vec<u8>) -> Result<(), AllocError>
+    ensures { OnOk result (out.new.items ≡ out.old.items ++ compact_text (costs_data multi (cost ∷ []))) }
+{
+    if !multi {
+        return push_cost(cost, out);
+    }
+    out.push(b'[')?;
+    push_cost(cost, out)?;
+    out.push(b']')?;
+    Ok(())
+}
