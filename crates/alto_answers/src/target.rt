@@ -1,6 +1,6 @@
 ghost use Rattle.std.specs.Prelude.{◌≡◌, ◌==◌, IfOk};
 ghost use Rattle.std.specs.Cow.{cow_slice_items};
-ghost use Rattle.std.specs.List.{before_first};
+ghost use Rattle.std.specs.List.{before_first, list_any};
 ghost use Rattle.alto_answers.specs.Target.{question_mark, from_slash, without_host, path_of, raw_segment, segment};
 
 use crate::bytes::place_of;
@@ -25,10 +25,17 @@ pub(crate) fn segment(
     ensures { IfOk result (λ bytes. cow_slice_items bytes ≡ segment path.now place) }
 {
     let raw = raw_segment(path, place);
-    if raw.contains(&b'%') {
+    if has_escape(raw) {
         return percent_decode(raw).into_cow(alloc);
     }
     Ok(CowSlice::Borrowed(raw))
+}
+
+/// Whether there is an escape. A segment is short, so a look at each byte is faster than `contains`.
+fn has_escape(segment: &[u8]) -> bool
+    ensures { result ≡ list_any (λ b. b == 37) segment.now }
+{
+    segment.iter().any(|b| *b == b'%')
 }
 
 fn before_query(target: &[u8]) -> &[u8]
