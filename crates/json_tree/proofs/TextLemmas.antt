@@ -25,7 +25,7 @@ use Rattle.serde_json.proofs.Texts.{print-outline}
 use Rattle.json_tree.specs.Laws.{IsTreeNumber, IsOfTree, ItemsAreOfTrees, MembersAreOfTrees}
 use Rattle.json_tree.specs.Order.{names_of, AreInOrder}
 use Rattle.json_tree.specs.Whole.{is_whole, items_are_whole, members_are_whole, value_of, whole_value}
-use Rattle.json_tree.proofs.Reading.{read_back}
+use Rattle.json_tree.proofs.ReadBack.{read_back}
 
 -- the value of a text in UTF-8
 pub value_of_text : (text : List ℕ) → IsUtf8 text → value_of text ≡ read text

@@ -17,6 +17,7 @@ level_data Tree-F.Null = null
 level_data (Tree-F.Bool b) = boolean b
 level_data (Tree-F.Num n) = number (unsigned n)
 level_data (Tree-F.Text name) = string name
+level_data (Tree-F.Short text) = string text.bytes
 level_data (Tree-F.List trees) = array (items_of trees.items)
 level_data (Tree-F.Object members) = object (members_in_order members.entries)
 

@@ -26,6 +26,7 @@ fn copy(tree: &Tree) -> Result<Tree, AllocError>
         Tree::Bool(truth) => Ok(Tree::Bool(*truth)),
         Tree::Num(number) => Ok(Tree::Num(*number)),
         Tree::Text(text) => Ok(Tree::Text(text.clone()?)),
+        Tree::Short(text) => Ok(Tree::Short(*text)),
         Tree::List(trees) => Ok(Tree::List(copy_items(trees)?)),
         Tree::Object(members) => Ok(Tree::Object(copy_members(members)?)),
     }

@@ -13,6 +13,7 @@ mod members;
 mod name;
 mod parsing;
 mod pointer;
+mod reading;
 mod tree;
 mod writing;
 

@@ -36,6 +36,7 @@ impl Tree {
     {
         match self {
             Tree::Text(text) => Some(text.as_str()),
+            Tree::Short(text) => Some(text.as_str()),
             _ => None,
         }
     }

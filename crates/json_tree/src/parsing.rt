@@ -5,14 +5,15 @@ ghost use Rattle.json_tree.specs.Whole.{is_whole, items_are_whole, members_are_w
 
 use crate::fault::TreeFault;
 use crate::name::Name;
+use crate::reading::read_tokens;
 use crate::tree::Tree;
 use serde_json::{Map, Value};
 use std::alloc::Global;
 use std::collections::BTreeMap;
 
 /// The tree that a JSON text stands for (RFC 8259). Of a repeated member the last value counts, and numbers are
-/// judged on the value that stays. The value's texts are moved into the tree, and the time is linear in the text but
-/// for the order of the members.
+/// judged on the value that stays. The time is linear in the text but for the order of the members; a text that isn't
+/// read at once is read once more, to tell why.
 ///
 /// # Errors
 ///
@@ -20,6 +21,19 @@ use std::collections::BTreeMap;
 /// 127 deep; `NotWhole` where a number of the value isn't written as a whole number from 0 to 2^64 - 1.
 #[tactic(auto, unfolding(crate::specs::Whole::whole_value))]
 pub fn read(alloc: Global, bytes: &[u8]) -> Result<Tree, TreeFault>
+    ensures ok { IfOk result (λ tree. whole_value bytes.now ≡ Ok (data_of tree)) }
+    ensures err { IfErr result (λ fault. fault ≢ TreeFault.Memory
+        → whole_value bytes.now ≡ Err fault) }
+{
+    match read_tokens(alloc, bytes) {
+        Some(tree) => Ok(tree),
+        None => read_by_value(alloc, bytes),
+    }
+}
+
+/// The same by way of the value that serde_json reads, whose texts are moved into the tree.
+#[tactic(auto, unfolding(crate::specs::Whole::whole_value))]
+fn read_by_value(alloc: Global, bytes: &[u8]) -> Result<Tree, TreeFault>
     ensures ok { IfOk result (λ tree. whole_value bytes.now ≡ Ok (data_of tree)) }
     ensures err { IfErr result (λ fault. fault ≢ TreeFault.Memory
         → whole_value bytes.now ≡ Err fault) }

@@ -2,8 +2,12 @@ ghost use Rattle.std.specs.Prelude.{◌≡◌, IfOk, map};
 ghost use Rattle.serde_json.specs.Data.{null, boolean, number, unsigned, string};
 
 use crate::name::Name;
+use arrayvec::ArrayString;
 use std::alloc::{AllocError, Global};
 use std::collections::BTreeMap;
+
+/// The greatest length of a text that stands in its tree, in bytes.
+const ROOM: usize = 24;
 
 /// A JSON value (RFC 8259). Numbers are the whole numbers 0 to 2^64 - 1.
 #[derive(Debug, Drop)]
@@ -16,6 +20,8 @@ pub enum Tree {
     Num(u64),
     /// A text.
     Text(Name),
+    /// A text of at most 24 bytes, which stands in the tree itself.
+    Short(ArrayString<ROOM>),
     /// An array's values, in order.
     List(Vec<Tree>),
     /// The members, in the byte order of their names.
@@ -26,12 +32,15 @@ impl Tree {
     ghost use Rattle.json_tree.specs.Document.{array_of};
     ghost use Rattle.json_tree.specs.Tree.{data_of};
 
-    /// A text value with a copy of the text.
+    /// A text value with a copy of the text. Takes no memory where that has at most 24 bytes.
     #[tactic(auto, unfolding(crate::specs::Tree::data_of))]
     pub fn text(alloc: Global, text: &str) -> Result<Tree, AllocError>
         ensures { IfOk result (λ tree. data_of tree ≡ string text.now) }
     {
-        Ok(Tree::Text(Name::from_str(alloc, text)?))
+        match ArrayString::from(text) {
+            Ok(short) => Ok(Tree::Short(short)),
+            Err(_) => Ok(Tree::Text(Name::from_str(alloc, text)?)),
+        }
     }
 
     /// A text value of a text that the caller gives away. Takes no memory.

@@ -39,7 +39,8 @@ fn write(tree: &Tree, out: &mut Writer) -> Result<(), AllocError>
         Tree::Null => out.null(),
         Tree::Bool(truth) => out.boolean(*truth),
         Tree::Num(number) => out.u64(*number),
-        Tree::Text(name) => out.string(name.as_str()),
+        Tree::Text(text) => out.string(text.as_str()),
+        Tree::Short(text) => out.string(text.as_str()),
         Tree::List(trees) => {
             out.begin_array()?;
             write_items(trees, out)

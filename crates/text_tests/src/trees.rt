@@ -25,6 +25,7 @@ NaN => Syntax
 18446744073709551615 => 18446744073709551615
 18446744073709551616 => NotWhole
 [1,"a",null,[true]] => [1,"a",null,[true]]
+["exactly twenty-four byte","one more than twenty-four"] => ["exactly twenty-four byte","one more than twenty-four"]
 [1,] => Syntax
 [1.5,nul] => Syntax
 [1,[2,[-3]]] => NotWhole

@@ -2,7 +2,7 @@ use Rattle.std.proofs.Common.{◌≡◌, [], sym, subst, arith, rules}
 use Rattle.std.specs.Str.{IsUtf8}
 use Rattle.serde_json.proofs.Texts.{print-outline}
 use Rattle.json_tree.specs.Tree.{data_of}
-use Rattle.json_tree.proofs.Reading.{read_back}
+use Rattle.json_tree.proofs.ReadBack.{read_back}
 use Rattle.json_tree.proofs.TextLemmas.{whole_value-read}
 use Rattle.json_tree.proofs.writing.text.Goals as goal
 

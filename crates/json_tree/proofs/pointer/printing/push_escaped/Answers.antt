@@ -1,4 +1,4 @@
-use Rattle.std.proofs.Common.{◌≡◌, ◌≢◌, arith, rules}
+use Rattle.std.proofs.Common.{◌≢◌, arith, rules}
 use Rattle.json_tree.proofs.PointerLemmas.{token_of-encode}
 use Rattle.json_tree.proofs.pointer.printing.push_escaped.Goals as goal
 

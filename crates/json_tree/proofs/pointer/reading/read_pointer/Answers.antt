@@ -1,4 +1,4 @@
-use Rattle.std.proofs.Common.{◌≢◌, nat_eq, [], length, None, true≢false, sym, ap, ◌∙◌, arith}
+use Rattle.std.proofs.Common.{◌≢◌, nat_eq, [], length, true≢false, sym, ap, ◌∙◌, arith}
 use Rattle.std.proofs.lemmas.Str.Pattern.{strip_prefix_char}
 use Rattle.json_tree.proofs.PointerLemmas.{breaks_at_start}
 use Rattle.json_tree.proofs.pointer.reading.read_pointer.Goals as goal
