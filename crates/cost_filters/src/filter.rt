@@ -40,7 +40,7 @@ const FIRST_ROOM: usize = 8192;
 /// with no space, written without a tree.
 ///
 /// For each ordinal type one walk over its metric's rows and one sort of their costs. For each source that is asked for
-/// and each type that is asked for or tested one binary search for the source, and one look for each destination where
+/// and each type that is asked for or tested one search for the source, and one look for each destination where
 /// the source before has the same destinations. Where all destinations are asked for, also one walk over the source's
 /// rows.
 pub fn filter_cost_text<R: RowStore>(

@@ -32,7 +32,6 @@ pub use constraints::{Tests, read_constraints};
 pub use fields::{items_at, nested, object_in};
 pub use filter::filter_cost_text;
 pub use groups::push_group;
-pub use names::distinct;
 pub use pairs::Pairs;
 pub use pairs_between::PairsBetween;
 pub use pairs_from::PairsFrom;

@@ -23,7 +23,10 @@ pub(crate) fn distinct_names(names: Vec<PidName>) -> Result<Vec<PidName>, AllocE
 }
 
 /// The same among names as they stand in a request.
-pub fn distinct<'t>(alloc: Global, names: &[PidText<'t>]) -> Result<Vec<PidText<'t>>, AllocError>
+pub(crate) fn distinct<'t>(
+    alloc: Global,
+    names: &[PidText<'t>],
+) -> Result<Vec<PidText<'t>>, AllocError>
     ensures { IfOk result (λ set. set.items ≡ set_of names.now) }
 {
     let mut set = copies(alloc, names)?;

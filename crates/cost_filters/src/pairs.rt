@@ -97,7 +97,7 @@ impl<'a, R: RowStore> Pairs<'a, R> {
     }
 
     /// The pairs between sources and destinations. For each type that is asked for or tested one pass over the metrics,
-    /// and one binary search for each source. Where the destinations stand is found once for all sources in a row that
+    /// and one search for each source. Where the destinations stand is found once for all sources in a row that
     /// have the same. Where no constraint tests a pair, no tested type costs anything.
     pub fn between(
         &self,

@@ -69,16 +69,6 @@ impl PairsFrom<'_, '_> {
         }
     }
 
-    /// Whether the destination at this place makes one.
-    pub fn is_pair(&self, dst: usize) -> bool
-        ensures { result ≡ is_some (if_there (slice_get self.now dst)) }
-    {
-        match &self.found {
-            Found::Costs(costs) => cost_at(costs, dst).is_some(),
-            Found::At(pairs, src) => pairs.is_pair(*src, dst),
-        }
-    }
-
     /// Puts the costs of the destination at this place as a member, if it makes a pair, whose name was made by
     /// `MemberStarts`: in the form of several a list, else the one. Tells whether a member stands before the next.
     pub fn push_pair(

@@ -14,9 +14,8 @@ use std::alloc::{AllocError, Global};
 
 /// The costs in a metric from sources to destinations, of a table, if the metric has one.
 ///
-/// One binary search for each source. Where the destinations stand is found once for all sources in a row that have the
-/// same: by one comparison of two names for each that follows the one before among the source's too, else by one binary
-/// search.
+/// For each source one search among numbers that lie together. Where the destinations stand is found once for all
+/// sources in a row that have the same, and for each of them likewise.
 pub(crate) fn costs_between(
     alloc: Global,
     table: Option<&Table>,

@@ -99,9 +99,9 @@ impl CostTables {
         Ok(CostTables { tables })
     }
 
-    /// The costs in a metric of a network from sources to destinations, by source. One pass over the metrics, and one
-    /// binary search for each source. Where the destinations stand is found once for all sources in a row that have the
-    /// same, by one comparison of two names for each that follows the one before there too, else by one binary search.
+    /// The costs in a metric of a network from sources to destinations, by source. One pass over the metrics, and for
+    /// each source one search among numbers that lie together. Where the destinations stand is found once for all
+    /// sources in a row that have the same, and for each of them likewise.
     pub fn costs_between(
         &self,
         alloc: Global,
