@@ -1,4 +1,5 @@
 pub mod Compressed
+pub mod Dotted
 pub mod Grammar
 pub mod Insides
 pub mod Languages

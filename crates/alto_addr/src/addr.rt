@@ -1,7 +1,10 @@
-ghost use Rattle.std.specs.Prelude.{◌≡◌, ◌+◌, ◌*◌, ◌/◌, ◌%◌, ◌<◌, ◌^◌, ◌++◌, IfOk, OnOk, string_bytes};
+ghost use Rattle.std.specs.Prelude.{◌≡◌, ◌+◌, ◌*◌, ◌/◌, ◌%◌, ◌<◌, ◌≤◌, ◌^◌, ◌++◌, ◌∷◌, IfOk, OnOk, decimal, drop};
+ghost use Rattle.std.specs.Prelude.{length, string_bytes};
+ghost use Rattle.std.specs.Net.Text.{ipv4_text};
 ghost use Rattle.alto_addr.specs.Text.{number_after, octets_of, groups_of, addr_text};
 ghost use Rattle.std.specs.Net.Addr.{ipv4_octets, ipv6_segments};
 
+use itoa::write_digits;
 use std::alloc::{AllocError, Global};
 use std::net::{Ipv4Addr, Ipv6Addr};
 
@@ -53,17 +56,6 @@ fn group(number: u128, shift: u32) -> u16
     (number >> shift & 0xffff) as u16
 }
 
-fn dotted(number: u32) -> Ipv4Addr
-    ensures { ipv4_octets result ≡ octets_of number }
-{
-    Ipv4Addr::new(
-        octet(number, 24),
-        octet(number, 16),
-        octet(number, 8),
-        octet(number, 0),
-    )
-}
-
 fn colon_hex(number: u128) -> Ipv6Addr
     ensures { ipv6_segments result ≡ groups_of number }
 {
@@ -97,13 +89,57 @@ pub fn write_addr(text: &mut String, addr: &Addr) -> Result<(), AllocError>
     ensures { OnOk result (string_bytes text.new ≡ string_bytes text.old ++ addr_text addr.now) }
 {
     match *addr {
-        Addr::V4(number) => {
-            let ip = dotted(number);
-            write!(text, "{ip}")
-        }
+        Addr::V4(number) => push_dotted(text, number),
         Addr::V6(number) => {
             let ip = colon_hex(number).hex_groups();
             write!(text, "{ip}")
         }
     }
+}
+
+/// The length of the longest dotted text.
+const LONGEST_DOTTED: usize = 15;
+
+/// Puts the octets of an address with dots between them at the end.
+fn push_dotted(text: &mut String, number: u32) -> Result<(), AllocError>
+    ensures { OnOk result (string_bytes text.new ≡ string_bytes text.old ++ ipv4_text (octets_of number)) }
+{
+    let mut room = [0; LONGEST_DOTTED];
+    let start = put_dotted(number, &mut room);
+    match str::from_utf8(&room[start..]) {
+        Ok(dotted) => text.push_str(dotted),
+        Err(_) => unreachable!(),
+    }
+}
+
+/// Puts the octets of an address with dots between them at the end of the room, and gives where they begin. Each stands
+/// before those that were put there, so that the text is copied once: a formatter takes four times as many steps.
+fn put_dotted(number: u32, room: &mut [u8; LONGEST_DOTTED]) -> usize
+    ensures start { result ≤ 15 }
+    ensures text { drop result room.new ≡ ipv4_text (octets_of number) }
+{
+    let last = put_octet(octet(number, 0), room, LONGEST_DOTTED);
+    let third = put_before(octet(number, 8), room, last);
+    let second = put_before(octet(number, 16), room, third);
+    put_before(octet(number, 24), room, second)
+}
+
+/// Puts an octet and a dot before a place of the room, and gives where it begins.
+fn put_before(octet: u8, room: &mut [u8; LONGEST_DOTTED], end: usize) -> usize
+    requires { (4 ≤ end) × (end ≤ 15) }
+    ensures start { (result ≤ 15) × (end ≤ result + 4) }
+    ensures text { drop result room.new ≡ decimal octet ++ 46 ∷ drop end room.old }
+{
+    let dot = end - 1;
+    room[dot] = b'.';
+    put_octet(octet, room, dot)
+}
+
+/// Puts an octet before a place of the room, and gives where it begins.
+fn put_octet(octet: u8, room: &mut [u8; LONGEST_DOTTED], end: usize) -> usize
+    requires { (3 ≤ end) × (end ≤ 15) }
+    ensures start { (result ≤ end) × (end ≤ result + 3) }
+    ensures text { drop result room.new ≡ decimal octet ++ drop end room.old }
+{
+    write_digits(octet.into(), room, end)
 }
