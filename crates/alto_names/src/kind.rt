@@ -86,7 +86,10 @@ impl Kind for PidKind {
     ghost ascii = { λ byte h. Prim.grind (arith, nat_tests) };
 
     fn admits(byte: u8) -> bool {
-        byte.is_ascii_alphanumeric() || byte == b'-' || byte == b':' || byte == b'@' || byte == b'_'
+        matches!(
+            byte,
+            b'0'..=b'9' | b'A'..=b'Z' | b'a'..=b'z' | b'-' | b':' | b'@' | b'_'
+        )
     }
 }
 
