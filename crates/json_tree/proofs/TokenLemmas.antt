@@ -9,7 +9,8 @@ use Rattle.json.specs.Token.{Token}
 use Rattle.json.specs.Json as json
 use Rattle.json.specs.Json.{Parse, parse_map, after_end_array, read_key, items, members}
 use Rattle.json.proofs.Grammar.{after_end_array-shorter, read_key-shorter}
-use Rattle.serde_json.specs.Data.{Data, array, object, unsigned, Items, no_items, item, Members, no_members, member, put}
+use Rattle.serde_json.specs.Data.{Data, array, object, unsigned, Items, no_items, item, Members, no_members, member}
+use Rattle.serde_json.specs.Data.{put}
 use Rattle.serde_json.specs.Read.{number_of, of_json, of_items, of_members, converted}
 use Rattle.json_tree.specs.Tree.{data_of, items_data}
 use Rattle.json_tree.specs.Whole.{is_whole, items_are_whole, members_are_whole}
@@ -146,7 +147,8 @@ module _ (read : Parse json.Json) where
 
   -- the end of an object
   pub members_end : (before : Members) (n : ℕ) (ts left : List Token) → length ts ≤ n
-      → read_key ts ≡ Some (None, left) → converted (λ ms. of_members ms before) (members read n ts) ≡ Some (before, left)
+      → read_key ts ≡ Some (None, left)
+      → converted (λ ms. of_members ms before) (members read n ts) ≡ Some (before, left)
   unfolding members
   members_end before zero ts left enough e = absurd (omega (arith, read_key-shorter ts None left e))
   members_end before (suc n) ts left enough e = rw e

@@ -41,7 +41,8 @@ read_items-returns-clause-items t c =
     let l = c.items in
     let n = l.invariant.0 in
     let left = c.take_end_array.new.self in
-    l.invariant.2 ∙ ap (parse_map (trees_before l.trees.items)) (items_end p n l.reader left l.invariant.1 (grind arith))
+    l.invariant.2
+    ∙ ap (parse_map (trees_before l.trees.items)) (items_end p n l.reader left l.invariant.1 (grind arith))
     ∙ ap (λ items. Some (items, left)) (trees_before_none l.trees.items)
 
 pub read_members-members-preserved : goal.read_members-members-preserved

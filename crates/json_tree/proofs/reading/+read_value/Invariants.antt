@@ -32,7 +32,8 @@ decreases-read_items-items l = length l.reader
 -- the same of the members, which go into those so far
 abbrev pub invariant-read_members-members : goal.invariant-read_members-members
 invariant-read_members-members l =
-    let all = λ (found : Members) (turns : ℕ) (tokens : List Token). converted (λ ms. of_members ms found) (members (value l.depth) turns tokens) in
+    let all = λ (found : Members) (turns : ℕ) (tokens : List Token).
+    converted (λ ms. of_members ms found) (members (value l.depth) turns tokens) in
     (n : ℕ) × (length l.reader ≤ n)
     × (all no_members (length l.initial.reader) l.initial.reader ≡ all (entries_data l.map.entries) n l.reader)
     × (length l.reader ≤ length l.initial.reader)

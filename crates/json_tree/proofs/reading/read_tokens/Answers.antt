@@ -19,6 +19,7 @@ returns c =
     let utf8 : IsUtf8 bytes = search rules in
     let over : c.read_value.new.reader ≡ [] = search rules in
     let begun : c.in_ok-reader.reader ≡ tokens text = search rules in
-    let all : converted of_json (value 127 (tokens text)) ≡ Some (data_of tree, []) = rw (begun, over) at c.in_ok-tree.ensures.value in
+    let all : converted of_json (value 127 (tokens text)) ≡ Some (data_of tree, []) =
+    rw (begun, over) at c.in_ok-tree.ensures.value in
     let is : read bytes ≡ Some (data_of tree) = rw same at (read_whole (value 127 (tokens text)) (data_of tree) all) in
     rw (value_of_text bytes utf8, is, c.in_ok-tree.ensures.whole)
