@@ -11,3 +11,4 @@ pub mod PlainLemmas
 pub mod StartsLemmas
 pub mod BetweenLemmas
 pub mod NamesLemmas
+pub mod DigitsLemmas

@@ -13,6 +13,7 @@ ghost use Rattle.cost_filters.specs.Pairs.{costs_at, has_cost};
 
 use crate::columns::{Column, Scale, scaled};
 use crate::text::{push_comma, push_cost};
+use crate::text_buffer::TextBuffer;
 use crate::types::CostType;
 use alto_names::NetName;
 use cost_tables::{CostTables, PidText};
@@ -205,13 +206,13 @@ pub(crate) fn push_costs(
     multi: bool,
     src: usize,
     dst: usize,
-    out: &mut Vec<u8>,
+    out: &mut TextBuffer,
 ) -> Result<(), AllocError>
-    ensures { OnOk result (out.new.items ≡ out.old.items
+    ensures { OnOk result (out.new ≡ out.old
         ++ compact_text (costs_data multi (costs_at dst (columns_at src columns.now)))) }
 {
     if multi {
-        out.push(b'[')?;
+        out.push(b"[")?;
         return push_each(columns, src, dst, out);
     }
     match columns.first() {
@@ -225,9 +226,9 @@ fn push_each(
     columns: &[ColumnBetween],
     src: usize,
     dst: usize,
-    out: &mut Vec<u8>,
+    out: &mut TextBuffer,
 ) -> Result<(), AllocError>
-    ensures { OnOk result (out.new.items ≡ out.old.items ++ items_text false
+    ensures { OnOk result (out.new ≡ out.old ++ items_text false
         (items_of (map number_data (costs_at dst (columns_at src columns.now))))) }
 {
     let mut later = false;
@@ -236,6 +237,6 @@ fn push_each(
         push_cost(column.cost(src, dst), out)?;
         later = true;
     }
-    out.push(b']')?;
+    out.push(b"]")?;
     Ok(())
 }

@@ -70,7 +70,7 @@ impl Destinations {
 pub(crate) fn starts_of(alloc: Global, names: &[PidText]) -> Result<MemberStarts, AllocError>
     ensures { IfOk result (λ starts. starts ≡ map member_start names.now) }
 {
-    let mut starts = MemberStarts::new(alloc);
+    let mut starts = MemberStarts::with_room(alloc, names.len())?;
     for name in names {
         starts = starts.with(name.as_str())?;
     }

@@ -23,6 +23,7 @@ use crate::destinations::{Destinations, starts_of};
 use crate::groups::push_group;
 use crate::names::{names_given, pids_unless_given, srcs_among, texts_of};
 use crate::pairs::Pairs;
+use crate::text_buffer::TextBuffer;
 use crate::types::CostType;
 use crate::writing::write_types;
 use alto_names::NetName;
@@ -54,11 +55,11 @@ pub fn filter_cost_text<R: RowStore>(
     requires costs { AreCostsOf (R.rows rows.now) tables.now }
     ensures { IfOk result (λ bytes. bytes.items ≡ compact_text (filtered_costs (R.rows rows.now) net.now ask.now)) }
 {
-    let mut text = Vec::with_capacity(alloc, FIRST_ROOM)?;
-    text.extend_from_slice(b"{\"cost-map\":")?;
+    let mut text = TextBuffer::with_room(alloc, FIRST_ROOM)?;
+    text.push(b"{\"cost-map\":")?;
     push_section(alloc, rows, tables, net, ask, &mut text)?;
-    text.push(b',')?;
-    let mut out = Writer::new(text);
+    text.push(b",")?;
+    let mut out = Writer::new(text.into_bytes());
     write_meta(alloc, rows, net, ask, &mut out)?;
     let mut whole = out.into_inner();
     whole.push(b'}')?;
@@ -109,11 +110,11 @@ fn push_section<R: RowStore>(
     tables: &CostTables,
     net: &NetName,
     ask: &CostAsk,
-    out: &mut Vec<u8>,
+    out: &mut TextBuffer,
 ) -> Result<(), AllocError>
     requires good { AreGood (R.rows rows.now) }
     requires costs { AreCostsOf (R.rows rows.now) tables.now }
-    ensures { OnOk result (out.new.items ≡ out.old.items
+    ensures { OnOk result (out.new ≡ out.old
         ++ compact_text (section_object (filtered_face (R.rows rows.now) net.now ask.now))) }
 {
     let pairs = Pairs::new(
@@ -128,7 +129,7 @@ fn push_section<R: RowStore>(
     let pids = pids_unless_given(alloc, rows, net, &ask.srcs)?;
     let srcs = srcs_among(alloc, &pids, &ask.srcs)?;
     let given = names_given(alloc, &ask.dsts)?;
-    out.push(b'{')?;
+    out.push(b"{")?;
     push_groups(alloc, &pairs, ask.multi, &srcs, &given, out)
 }
 
@@ -139,10 +140,10 @@ fn push_groups<R: RowStore>(
     multi: bool,
     srcs: &[PidText],
     given: &Option<Vec<PidText>>,
-    out: &mut Vec<u8>,
+    out: &mut TextBuffer,
 ) -> Result<(), AllocError>
     requires { AreSetIfAny (option_map (λ names. names.items) given.now) }
-    ensures { OnOk result (out.new.items ≡ out.old.items ++ members_text false (members_in_order
+    ensures { OnOk result (out.new ≡ out.old ++ members_text false (members_in_order
         (valued (group_made multi (option_map (λ names. names.items) given.now) pairs.now) srcs.now))) }
 {
     match given {
@@ -158,10 +159,10 @@ fn push_given<R: RowStore>(
     multi: bool,
     srcs: &[PidText],
     dsts: &[PidText],
-    out: &mut Vec<u8>,
+    out: &mut TextBuffer,
 ) -> Result<(), AllocError>
     requires { IsStrictlySortedBy (slice_cmp nat_cmp) dsts.now }
-    ensures { OnOk result (out.new.items ≡ out.old.items ++ members_text false (members_in_order
+    ensures { OnOk result (out.new ≡ out.old ++ members_text false (members_in_order
         (valued (group_made multi (Some dsts.now) pairs.now) srcs.now))) }
 {
     let starts = starts_of(alloc, dsts)?;
@@ -171,7 +172,7 @@ fn push_given<R: RowStore>(
         let found = between.from_source(at);
         later = push_group(multi, src.as_str(), &starts, &found, later, out)?;
     }
-    out.push(b'}')?;
+    out.push(b"}")?;
     Ok(())
 }
 
@@ -182,9 +183,9 @@ fn push_reached<R: RowStore>(
     pairs: &Pairs<R>,
     multi: bool,
     srcs: &[PidText],
-    out: &mut Vec<u8>,
+    out: &mut TextBuffer,
 ) -> Result<(), AllocError>
-    ensures { OnOk result (out.new.items ≡ out.old.items ++ members_text false (members_in_order
+    ensures { OnOk result (out.new ≡ out.old ++ members_text false (members_in_order
         (valued (group_made multi None pairs.now) srcs.now))) }
 {
     let mut dsts = Destinations::none(alloc);
@@ -193,7 +194,7 @@ fn push_reached<R: RowStore>(
         dsts = dsts.renewed(pairs.reached(alloc, src)?)?;
         later = push_source(alloc, pairs, multi, src, &dsts, later, out)?;
     }
-    out.push(b'}')?;
+    out.push(b"}")?;
     Ok(())
 }
 
@@ -206,11 +207,11 @@ fn push_source<R: RowStore>(
     src: &PidText,
     dsts: &Destinations,
     later: bool,
-    out: &mut Vec<u8>,
+    out: &mut TextBuffer,
 ) -> Result<bool, AllocError>
     ensures { IfOk result (λ after. PutsIfAny src.now
         (found_object multi dsts.now (map (pair_costs pairs.now src.now) dsts.now))
-        later out.old.items after out.new.items) }
+        later out.old after out.new) }
 {
     let names = texts_of(alloc, dsts.names())?;
     let between = pairs.between(alloc, slice::from_ref(src), &names)?;

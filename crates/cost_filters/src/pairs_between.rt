@@ -1,14 +1,18 @@
-ghost use Rattle.std.specs.Prelude.{◌≡◌, ◌∷◌, [], false, IfOk, IfSome, is_some, map, option_map, slice_get, unwrap_or};
+ghost use Rattle.std.specs.Prelude.{◌≡◌, ◌++◌, ◌∷◌, [], List, false, IfOk, IfSome, OnOk, is_some, map, option_map};
+ghost use Rattle.std.specs.Prelude.{slice_get, unwrap_or};
 ghost use Rattle.std.specs.List.{list_any};
+ghost use Rattle.serde_json.specs.Written.{members_text};
+ghost use Rattle.json_tree.specs.Tree.{members_in_order};
 ghost use Rattle.alto_maps.specs.Shape.{Name};
 ghost use Rattle.cost_filters.specs.Between.{columns_at, flag_at, is_flagged, one_cost, pairs_at, rows_shown};
 ghost use Rattle.cost_filters.specs.Filter.{costs_data};
 ghost use Rattle.cost_filters.specs.Pairs.{if_there};
-ghost use Rattle.cost_filters.specs.Text.{PutsIfAny, member_start};
+ghost use Rattle.cost_filters.specs.Text.{PutsIfAny, member_start, shown_members};
 
 use crate::column_between::{ColumnBetween, has_cost, push_costs};
 use crate::pairs_from::PairsFrom;
-use crate::starts::push_made;
+use crate::starts::{MemberStarts, push_made};
+use crate::text_buffer::TextBuffer;
 use std::alloc::AllocError;
 use std::marker::Model;
 
@@ -110,21 +114,42 @@ impl<'a> PairsBetween<'a> {
         is_shown(&self.costs, &self.shown, src, dst)
     }
 
+    /// Puts each of the destinations with which the source at a place has a pair as a member, with the brace behind
+    /// them.
+    pub(crate) fn push_members(
+        &self,
+        multi: bool,
+        dsts: &MemberStarts,
+        src: usize,
+        out: &mut TextBuffer,
+    ) -> Result<(), AllocError>
+        ensures { OnOk result ((names : List Name) → dsts.now ≡ map member_start names
+            → out.new ≡ out.old
+            ++ members_text false (members_in_order (shown_members multi names (pairs_at self.now src)))) }
+    {
+        let mut later = false;
+        for at in 0..dsts.count() {
+            later = self.push_pair(multi, dsts.text(at), src, at, later, out)?;
+        }
+        out.push(b"}")?;
+        Ok(())
+    }
+
     /// Puts the costs of the source and the destination at these places as a member, if they are a pair, whose name was
     /// made by `MemberStarts`: in the form of several a list, else the one. Tells whether a member stands before the
     /// next.
-    pub(crate) fn push_pair(
+    fn push_pair(
         &self,
         multi: bool,
         start: &[u8],
         src: usize,
         dst: usize,
         later: bool,
-        out: &mut Vec<u8>,
+        out: &mut TextBuffer,
     ) -> Result<bool, AllocError>
         ensures { IfOk result (λ after. (name : Name) → start.now ≡ member_start name
             → PutsIfAny name (option_map (costs_data multi) (if_there (slice_get (pairs_at self.now src) dst)))
-            later out.old.items after out.new.items) }
+            later out.old after out.new) }
     {
         if !self.is_pair(src, dst) {
             return Ok(later);

@@ -1,16 +1,19 @@
 //! The pairs from one source.
-ghost use Rattle.std.specs.Prelude.{◌≡◌, ◌++◌, ◌∷◌, [], IfOk, OnOk, Some, is_some, map, option_map, slice_get};
+ghost use Rattle.std.specs.Prelude.{◌≡◌, ◌++◌, ◌∷◌, [], List, IfOk, OnOk, Some, false, is_some, map, option_map};
+ghost use Rattle.std.specs.Prelude.{slice_get};
 ghost use Rattle.std.specs.List.{list_any};
-ghost use Rattle.serde_json.specs.Written.{compact_text};
+ghost use Rattle.serde_json.specs.Written.{compact_text, members_text};
+ghost use Rattle.json_tree.specs.Tree.{members_in_order};
 ghost use Rattle.alto_maps.specs.Shape.{Name};
 ghost use Rattle.cost_filters.specs.Between.{one_cost, pairs_at};
 ghost use Rattle.cost_filters.specs.Filter.{costs_data};
 ghost use Rattle.cost_filters.specs.Pairs.{if_there};
-ghost use Rattle.cost_filters.specs.Text.{PutsIfAny, member_start};
+ghost use Rattle.cost_filters.specs.Text.{PutsIfAny, member_start, shown_members};
 
 use crate::pairs_between::PairsBetween;
-use crate::starts::push_made;
+use crate::starts::{MemberStarts, push_made};
 use crate::text::push_cost;
+use crate::text_buffer::TextBuffer;
 use std::alloc::AllocError;
 use std::marker::Model;
 
@@ -69,25 +72,42 @@ impl PairsFrom<'_, '_> {
         }
     }
 
-    /// Puts the costs of the destination at this place as a member, if it makes a pair, whose name was made by
-    /// `MemberStarts`: in the form of several a list, else the one. Tells whether a member stands before the next.
-    pub fn push_pair(
+    /// Puts each of the destinations with which the source has a pair as a member, whose name was made by
+    /// `MemberStarts`: with its costs as a list in the form of several, else with the one. Puts the brace behind them.
+    pub(crate) fn push_members(
         &self,
         multi: bool,
-        start: &[u8],
-        dst: usize,
-        later: bool,
-        out: &mut Vec<u8>,
-    ) -> Result<bool, AllocError>
-        ensures { IfOk result (λ after. (name : Name) → start.now ≡ member_start name
-            → PutsIfAny name (option_map (costs_data multi) (if_there (slice_get self.now dst)))
-            later out.old.items after out.new.items) }
+        dsts: &MemberStarts,
+        out: &mut TextBuffer,
+    ) -> Result<(), AllocError>
+        ensures { OnOk result ((names : List Name) → dsts.now ≡ map member_start names
+            → out.new ≡ out.old
+            ++ members_text false (members_in_order (shown_members multi names self.now))) }
     {
         match &self.found {
-            Found::Costs(costs) => push_one(multi, start, cost_at(costs, dst), later, out),
-            Found::At(pairs, src) => pairs.push_pair(multi, start, *src, dst, later, out),
+            Found::Costs(costs) => push_costs(multi, dsts, costs, out),
+            Found::At(pairs, src) => pairs.push_members(multi, dsts, *src, out),
         }
     }
+}
+
+/// Puts each of the destinations to which there is a cost, with the brace behind them.
+fn push_costs(
+    multi: bool,
+    dsts: &MemberStarts,
+    costs: &[Option<u64>],
+    out: &mut TextBuffer,
+) -> Result<(), AllocError>
+    ensures { OnOk result ((names : List Name) → dsts.now ≡ map member_start names
+        → out.new ≡ out.old
+        ++ members_text false (members_in_order (shown_members multi names (map one_cost costs.now)))) }
+{
+    let mut later = false;
+    for at in 0..dsts.count() {
+        later = push_one(multi, dsts.text(at), cost_at(costs, at), later, out)?;
+    }
+    out.push(b"}")?;
+    Ok(())
 }
 
 /// The cost at a place.
@@ -110,10 +130,10 @@ fn push_one(
     start: &[u8],
     cost: Option<u64>,
     later: bool,
-    out: &mut Vec<u8>,
+    out: &mut TextBuffer,
 ) -> Result<bool, AllocError>
     ensures { IfOk result (λ after. (name : Name) → start.now ≡ member_start name
-        → PutsIfAny name (option_map (costs_data multi) (one_cost cost)) later out.old.items after out.new.items) }
+        → PutsIfAny name (option_map (costs_data multi) (one_cost cost)) later out.old after out.new) }
 {
     if cost.is_none() {
         return Ok(later);
@@ -124,14 +144,14 @@ fn push_one(
 }
 
 /// Puts one cost: in the form of several as a list.
-fn push_costs_of_one(multi: bool, cost: Option<u64>, out: &mut Vec<u8>) -> Result<(), AllocError>
-    ensures { OnOk result (out.new.items ≡ out.old.items ++ compact_text (costs_data multi (cost ∷ []))) }
+fn push_costs_of_one(multi: bool, cost: Option<u64>, out: &mut TextBuffer) -> Result<(), AllocError>
+    ensures { OnOk result (out.new ≡ out.old ++ compact_text (costs_data multi (cost ∷ []))) }
 {
     if !multi {
         return push_cost(cost, out);
     }
-    out.push(b'[')?;
+    out.push(b"[")?;
     push_cost(cost, out)?;
-    out.push(b']')?;
+    out.push(b"]")?;
     Ok(())
 }

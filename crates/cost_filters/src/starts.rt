@@ -6,14 +6,18 @@ ghost use Rattle.alto_maps.specs.Shape.{Name};
 ghost use Rattle.cost_filters.specs.Text.{member_start};
 
 use crate::text::push_name;
+use crate::text_buffer::TextBuffer;
 use std::alloc::{AllocError, Global};
 use std::marker::Model;
+
+/// Room for a name with what stands around it, which few are longer than.
+const COMMON_LENGTH: usize = 24;
 
 /// Names of members as they are written, each behind a comma and with its colon: `,"east":`. They lie one behind
 /// another in one piece of memory. A contract sees the texts.
 #[derive(Drop)]
 pub struct MemberStarts {
-    bytes: Vec<u8>,
+    bytes: TextBuffer,
     /// Where each begins and ends.
     places: Vec<(usize, usize)>,
 }
@@ -24,9 +28,9 @@ impl Model for MemberStarts {
 
     ghost Value = { List (List ℕ) };
 
-    ghost view = { λ starts. texts_at starts.bytes.items starts.places.items };
+    ghost view = { λ starts. texts_at starts.bytes starts.places.items };
 
-    ghost invariant = { λ starts. AreWithin starts.bytes.items starts.places.items };
+    ghost invariant = { λ starts. AreWithin starts.bytes starts.places.items };
 }
 
 impl MemberStarts {
@@ -35,9 +39,19 @@ impl MemberStarts {
         ensures { result ≡ [] }
     {
         MemberStarts {
-            bytes: Vec::new(alloc),
+            bytes: TextBuffer::new(alloc),
             places: Vec::new(alloc),
         }
+    }
+
+    /// None, with room for so many that aren't uncommonly long.
+    pub fn with_room(alloc: Global, names: usize) -> Result<MemberStarts, AllocError>
+        ensures { IfOk result (λ starts. starts ≡ []) }
+    {
+        Ok(MemberStarts {
+            bytes: TextBuffer::with_room(alloc, names.saturating_mul(COMMON_LENGTH))?,
+            places: Vec::with_capacity(alloc, names)?,
+        })
     }
 
     /// None, with the memory of those that were here.
@@ -80,7 +94,7 @@ impl MemberStarts {
         ensures { result.now ≡ unwrap_or (slice_get self.now place) [] }
     {
         match self.places.get(place) {
-            Some((start, end)) => part(&self.bytes, *start, *end),
+            Some((start, end)) => part(self.bytes.bytes(), *start, *end),
             None => &[],
         }
     }
@@ -97,33 +111,33 @@ fn part(bytes: &[u8], start: usize, end: usize) -> &[u8]
 }
 
 /// Puts a name behind a comma, with its colon, and gives where it begins and ends.
-fn put_start(name: &str, out: &mut Vec<u8>) -> Result<(usize, usize), AllocError>
-    ensures text { OnOk result (out.new.items ≡ out.old.items ++ member_start name.now) }
-    ensures place { IfOk result (λ place. place ≡ (length out.old.items, length out.new.items)) }
+fn put_start(name: &str, out: &mut TextBuffer) -> Result<(usize, usize), AllocError>
+    ensures text { OnOk result (out.new ≡ out.old ++ member_start name.now) }
+    ensures place { IfOk result (λ place. place ≡ (length out.old, length out.new)) }
 {
-    let start = out.len();
+    let start = out.bytes().len();
     push_start(name, out)?;
-    Ok((start, out.len()))
+    Ok((start, out.bytes().len()))
 }
 
 /// Puts a name behind a comma, with its colon.
-fn push_start(name: &str, out: &mut Vec<u8>) -> Result<(), AllocError>
-    ensures { OnOk result (out.new.items ≡ out.old.items ++ member_start name.now) }
+fn push_start(name: &str, out: &mut TextBuffer) -> Result<(), AllocError>
+    ensures { OnOk result (out.new ≡ out.old ++ member_start name.now) }
 {
-    out.push(b',')?;
+    out.push(b",")?;
     push_name(name, out)
 }
 
 /// Puts the name of a member that was made so, without its comma where no member stands before.
-pub(crate) fn push_made(start: &[u8], later: bool, out: &mut Vec<u8>) -> Result<(), AllocError>
+pub(crate) fn push_made(start: &[u8], later: bool, out: &mut TextBuffer) -> Result<(), AllocError>
     ensures { OnOk result ((name : Name) → start.now ≡ member_start name
-        → out.new.items ≡ out.old.items ++ (comma_if later ++ (quoted name ++ 58 ∷ []))) }
+        → out.new ≡ out.old ++ (comma_if later ++ (quoted name ++ 58 ∷ []))) }
 {
     if later {
-        return out.extend_from_slice(start);
+        return out.push(start);
     }
     match start.get(1..) {
-        Some(name) => out.extend_from_slice(name),
+        Some(name) => out.push(name),
         None => Ok(()),
     }
 }

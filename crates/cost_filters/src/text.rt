@@ -7,23 +7,23 @@ ghost use Rattle.serde_json.specs.Written.{comma_if, compact_text};
 ghost use Rattle.cost_docs.specs.CostMap.{number_data};
 ghost use Rattle.cost_filters.specs.Text.{is_plain};
 
-use itoa::Buffer;
+use crate::text_buffer::TextBuffer;
 use json::Writer;
 use std::alloc::{AllocError, Global};
 
 /// Puts a comma, where a member or an item stands before.
-pub fn push_comma(later: bool, out: &mut Vec<u8>) -> Result<(), AllocError>
-    ensures { OnOk result (out.new.items ≡ out.old.items ++ comma_if later) }
+pub fn push_comma(later: bool, out: &mut TextBuffer) -> Result<(), AllocError>
+    ensures { OnOk result (out.new ≡ out.old ++ comma_if later) }
 {
     if later {
-        out.push(b',')?;
+        out.push(b",")?;
     }
     Ok(())
 }
 
 /// Puts the name of a member, with its colon. Linear in the name.
-pub fn push_name(name: &str, out: &mut Vec<u8>) -> Result<(), AllocError>
-    ensures { OnOk result (out.new.items ≡ out.old.items ++ (quoted name.now ++ 58 ∷ [])) }
+pub fn push_name(name: &str, out: &mut TextBuffer) -> Result<(), AllocError>
+    ensures { OnOk result (out.new ≡ out.old ++ (quoted name.now ++ 58 ∷ [])) }
 {
     if are_plain(name.as_bytes()) {
         push_plain(name.as_bytes(), out)
@@ -33,20 +33,20 @@ pub fn push_name(name: &str, out: &mut Vec<u8>) -> Result<(), AllocError>
 }
 
 /// Puts the name of a member whose bytes stand for themselves.
-fn push_plain(name: &[u8], out: &mut Vec<u8>) -> Result<(), AllocError>
-    ensures { OnOk result (out.new.items ≡ out.old.items ++ 34 ∷ (name.now ++ 34 ∷ 58 ∷ [])) }
+fn push_plain(name: &[u8], out: &mut TextBuffer) -> Result<(), AllocError>
+    ensures { OnOk result (out.new ≡ out.old ++ 34 ∷ (name.now ++ 34 ∷ 58 ∷ [])) }
 {
-    out.push(b'"')?;
-    out.extend_from_slice(name)?;
-    out.extend_from_slice(b"\":")
+    out.push(b"\"")?;
+    out.push(name)?;
+    out.push(b"\":")
 }
 
 /// Puts the name of a member, whatever its bytes are.
-fn push_escaped(name: &str, out: &mut Vec<u8>) -> Result<(), AllocError>
-    ensures { OnOk result (out.new.items ≡ out.old.items ++ (quoted name.now ++ 58 ∷ [])) }
+fn push_escaped(name: &str, out: &mut TextBuffer) -> Result<(), AllocError>
+    ensures { OnOk result (out.new ≡ out.old ++ (quoted name.now ++ 58 ∷ [])) }
 {
-    let text = name_text(*out.allocator(), name)?;
-    out.extend_from_slice(&text)
+    let text = name_text(out.allocator(), name)?;
+    out.push(&text)
 }
 
 /// The name of a member, as a writer of tokens has it.
@@ -72,14 +72,11 @@ fn is_plain(byte: u8) -> bool
 }
 
 /// Puts a cost, null where there is none.
-pub(crate) fn push_cost(cost: Option<u64>, out: &mut Vec<u8>) -> Result<(), AllocError>
-    ensures { OnOk result (out.new.items ≡ out.old.items ++ compact_text (number_data cost)) }
+pub(crate) fn push_cost(cost: Option<u64>, out: &mut TextBuffer) -> Result<(), AllocError>
+    ensures { OnOk result (out.new ≡ out.old ++ compact_text (number_data cost)) }
 {
     match cost {
-        Some(number) => {
-            let mut digits = Buffer::new();
-            out.extend_from_slice(digits.format(number).as_bytes())
-        }
-        None => out.extend_from_slice(b"null"),
+        Some(number) => out.push_number(number),
+        None => out.push(b"null"),
     }
 }

@@ -17,7 +17,7 @@ use crate::entries::{Entry, entries_of, pids_of, starts_of};
 use alto_addr::Addr;
 use alto_names::NetName;
 use alto_rows::RowStore;
-use cost_filters::{MemberStarts, Pairs, PairsBetween, push_group, write_types};
+use cost_filters::{MemberStarts, Pairs, PairsBetween, TextBuffer, push_group, write_types};
 use cost_tables::CostTables;
 use json::Writer;
 use pid_prefix::RangeTable;
@@ -50,11 +50,11 @@ pub fn endpoint_cost_text<R: RowStore>(
 {
     let srcs = endpoints_at(alloc, table, &ask.srcs, peer)?;
     let dsts = endpoints_at(alloc, table, &ask.dsts, peer)?;
-    let mut text = Vec::with_capacity(alloc, FIRST_ROOM)?;
-    text.extend_from_slice(b"{\"endpoint-cost-map\":")?;
+    let mut text = TextBuffer::with_room(alloc, FIRST_ROOM)?;
+    text.push(b"{\"endpoint-cost-map\":")?;
     push_section(alloc, rows, tables, net, ask, srcs, dsts, &mut text)?;
-    text.push(b',')?;
-    let mut out = Writer::new(text);
+    text.push(b",")?;
+    let mut out = Writer::new(text.into_bytes());
     write_meta(ask, &mut out)?;
     let mut whole = out.into_inner();
     whole.push(b'}')?;
@@ -80,13 +80,13 @@ fn push_section<R: RowStore>(
     ask: &EndAsk,
     srcs: Vec<Endpoint<'_>>,
     dsts: Vec<Endpoint<'_>>,
-    out: &mut Vec<u8>,
+    out: &mut TextBuffer,
 ) -> Result<(), AllocError>
     requires good { AreGood (R.rows rows.now) }
     requires costs { AreCostsOf (R.rows rows.now) tables.now }
     requires srcs { AllByRecursion (IsWritten (prefixes_in (R.rows rows.now) net.now)) srcs.items }
     requires dsts { AllByRecursion (IsWritten (prefixes_in (R.rows rows.now) net.now)) dsts.items }
-    ensures { OnOk result (out.new.items ≡ out.old.items
+    ensures { OnOk result (out.new ≡ out.old
         ++ compact_text (pairs_object (R.rows rows.now) net.now ask.now srcs.entry.items dsts.entry.items)) }
 {
     let pairs = Pairs::new(
@@ -102,7 +102,7 @@ fn push_section<R: RowStore>(
     let dsts = entries_of(alloc, dsts)?;
     let starts = starts_of(alloc, &dsts)?;
     let between = pairs.between(alloc, &pids_of(alloc, &srcs)?, &pids_of(alloc, &dsts)?)?;
-    out.push(b'{')?;
+    out.push(b"{")?;
     push_groups(ask.multi, &srcs, &starts, &between, out)
 }
 
@@ -112,10 +112,10 @@ fn push_groups(
     srcs: &[Entry],
     dsts: &MemberStarts,
     pairs: &PairsBetween,
-    out: &mut Vec<u8>,
+    out: &mut TextBuffer,
 ) -> Result<(), AllocError>
     ensures { OnOk result ((names : List Name) → dsts.now ≡ map member_start names
-        → out.new.items ≡ out.old.items
+        → out.new ≡ out.old
         ++ members_text false (members_in_order (groups_at multi names srcs.now pairs.now))) }
 {
     let mut later = false;
@@ -123,6 +123,6 @@ fn push_groups(
         let found = pairs.from_source(at);
         later = push_group(multi, src.0.as_str(), dsts, &found, later, out)?;
     }
-    out.push(b'}')?;
+    out.push(b"}")?;
     Ok(())
 }

@@ -57,7 +57,7 @@ pub(crate) fn pids_of<'a>(
 pub(crate) fn starts_of(alloc: Global, entries: &[Entry]) -> Result<MemberStarts, AllocError>
     ensures { IfOk result (λ starts. starts ≡ map member_start (map (λ entry. entry.0) entries.now)) }
 {
-    let mut starts = MemberStarts::new(alloc);
+    let mut starts = MemberStarts::with_room(alloc, entries.len())?;
     for entry in entries {
         starts = starts.with(entry.0.as_str())?;
     }

@@ -10,7 +10,7 @@ use Rattle.cost_filters.proofs.column_between.push_each.Given as goal
 -- what is there, and the costs of the columns that are left, make all costs
 abbrev pub invariant-loop-column : goal.invariant-loop-column
 invariant-loop-column l =
-    l.out.items ++ items_text l.later
+    l.out ++ items_text l.later
     (items_of (map number_data (costs_at l.dst (columns_at l.src (drop l.column-index l.columns)))))
-    ≡ l.initial.out.items ++ items_text false
+    ≡ l.initial.out ++ items_text false
     (items_of (map number_data (costs_at l.dst (columns_at l.src l.columns))))

@@ -31,11 +31,11 @@ loop-at-preserved g c =
     let value : found_object multi names c.from_source-found.result ≡ group src =
     ap (found_object multi names) found ∙ object_found (pair_costs pairs src) multi names c.requires in
     let name : c.as_str.result.now ≡ src = c.as_str.ensures in
-    let put : PutsIfAny src (group src) l.later l.out.items c.in_ok-later.later c.push_group.new.out.items =
-    subst (λ (d : Option Data). PutsIfAny src d l.later l.out.items c.in_ok-later.later c.push_group.new.out.items)
+    let put : PutsIfAny src (group src) l.later l.out c.in_ok-later.later c.push_group.new.out =
+    subst (λ (d : Option Data). PutsIfAny src d l.later l.out c.in_ok-later.later c.push_group.new.out)
     value
-    (subst (λ (of : Name). PutsIfAny of (found_object multi names c.from_source-found.result) l.later l.out.items
-    c.in_ok-later.later c.push_group.new.out.items) name
+    (subst (λ (of : Name). PutsIfAny of (found_object multi names c.from_source-found.result) l.later l.out
+    c.in_ok-later.later c.push_group.new.out) name
     (c.in_ok-later.ensures names c.in_ok-starts.ensures)) in
-    group_more group src (drop l.at srcs) left l.later c.in_ok-later.later l.out.items
-    c.push_group.new.out.items _ step put l.invariant
+    group_more group src (drop l.at srcs) left l.later c.in_ok-later.later l.out
+    c.push_group.new.out _ step put l.invariant

@@ -10,5 +10,5 @@ use Rattle.cost_filters.proofs.filter.push_given.Given as goal
 abbrev pub invariant-loop-at : goal.invariant-loop-at
 invariant-loop-at g l =
     let group = group_made l.multi (Some l.dsts) l.pairs in
-    l.out.items ++ members_text l.later (members_in_order (valued group (drop l.at l.srcs)))
-    ≡ l.initial.out.items ++ members_text false (members_in_order (valued group l.srcs))
+    l.out ++ members_text l.later (members_in_order (valued group (drop l.at l.srcs)))
+    ≡ l.initial.out ++ members_text false (members_in_order (valued group l.srcs))

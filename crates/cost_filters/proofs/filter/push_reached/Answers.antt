@@ -25,8 +25,8 @@ loop-src-preserved g c =
     (λ i. found_object multi (c.in_ok-dsts.ensures i) (map (pair_costs pairs src) (c.in_ok-dsts.ensures i)))
     ∙ (object_found (pair_costs pairs src) multi names c.in_ok-reached.ensures.rise
     ∙ set_object (pair_shown multi pairs src) names all c.in_ok-reached.ensures) in
-    let put : PutsIfAny src (group src) l.later l.out.items c.in_ok-later.later c.push_source.new.out.items =
-    subst (λ (d : Option Data). PutsIfAny src d l.later l.out.items c.in_ok-later.later c.push_source.new.out.items)
+    let put : PutsIfAny src (group src) l.later l.out c.in_ok-later.later c.push_source.new.out =
+    subst (λ (d : Option Data). PutsIfAny src d l.later l.out c.in_ok-later.later c.push_source.new.out)
     value c.in_ok-later.ensures in
-    group_more group src (drop l.src-index srcs) left l.later c.in_ok-later.later l.out.items
-    c.push_source.new.out.items _ step put l.invariant
+    group_more group src (drop l.src-index srcs) left l.later c.in_ok-later.later l.out
+    c.push_source.new.out _ step put l.invariant

@@ -10,5 +10,5 @@ use Rattle.cost_filters.proofs.filter.push_reached.Given as goal
 abbrev pub invariant-loop-src : goal.invariant-loop-src
 invariant-loop-src g l =
     let group = group_made l.multi None l.pairs in
-    l.out.items ++ members_text l.later (members_in_order (valued group (drop l.src-index l.srcs)))
-    ≡ l.initial.out.items ++ members_text false (members_in_order (valued group l.srcs))
+    l.out ++ members_text l.later (members_in_order (valued group (drop l.src-index l.srcs)))
+    ≡ l.initial.out ++ members_text false (members_in_order (valued group l.srcs))

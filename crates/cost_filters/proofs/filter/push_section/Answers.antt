@@ -53,7 +53,7 @@ returns g c =
     (option_map (λ names. names.items) c.in_ok-given.given) c.in_ok-pairs.pairs) c.deref-5.result.now) in
     on_ok_weaker c.push_groups.result
     (λ put. put
-    ∙ (ap (λ bytes. bytes ++ members_text false members) c.in_ok-push.ensures.items
-    ∙ (append_assoc c.args.out.now.items (123 ∷ []) (members_text false members)
-    ∙ ap (λ (d : Data). c.args.out.now.items ++ compact_text d) whole)))
+    ∙ (ap (λ bytes. bytes ++ members_text false members) c.in_ok-push.ensures
+    ∙ (append_assoc c.args.out.now (123 ∷ []) (members_text false members)
+    ∙ ap (λ (d : Data). c.args.out.now ++ compact_text d) whole)))
     c.push_groups.ensures

@@ -15,7 +15,7 @@ returns-then-are_plain c =
     let bytes : c.as_bytes-then-are_plain.result.now ≡ name = c.as_bytes-then-are_plain.ensures.value in
     on_ok_weaker c.push_plain.result
     (λ put. put
-    ∙ ap (λ text. c.args.out.now.items ++ 34 ∷ text)
+    ∙ ap (λ text. c.args.out.now ++ 34 ∷ text)
     (ap (λ text. text ++ 34 ∷ 58 ∷ []) bytes
     ∙ (sym (append_assoc name (34 ∷ []) (58 ∷ [])) ∙ ap (λ text. (text ++ 34 ∷ []) ++ 58 ∷ []) (sym plain))))
     c.push_plain.ensures

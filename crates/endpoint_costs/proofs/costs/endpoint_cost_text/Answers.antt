@@ -25,23 +25,23 @@ returns g c =
     c.in_ok-dsts.ensures.are ∙ (λ i. endpoints_of (c.requires.table i)
     (addrs_at (ap (λ (asked : EndAskData). asked.dsts) c.ask.view_is i) peer)) in
     let meta = endpoint_meta ask in
-    let opened : c.extend_from_slice.new.self.items ≡ 123 ∷ (quoted (codes "endpoint-cost-map") ++ 58 ∷ []) =
-    c.in_ok-extend_from_slice.ensures.items
-    ∙ (ap (λ bytes. bytes ++ 123 ∷ (34 ∷ (codes "endpoint-cost-map" ++ 34 ∷ 58 ∷ []))) c.in_ok-text.ensures.items
+    let opened : c.push.new.self ≡ 123 ∷ (quoted (codes "endpoint-cost-map") ++ 58 ∷ []) =
+    c.in_ok-push.ensures
+    ∙ (ap (λ bytes. bytes ++ 123 ∷ (34 ∷ (codes "endpoint-cost-map" ++ 34 ∷ 58 ∷ []))) c.in_ok-text.ensures
     ∙ section_opened) in
-    let before : c.write_meta.new.out.before ≡ c.push.new.self.items =
-    c.in_ok-write_meta.ensures.before ∙ c.new-out.ensures.before in
+    let before : c.write_meta.new.out.before ≡ c.push-2.new.self =
+    c.in_ok-write_meta.ensures.before ∙ (c.new-out.ensures.before ∙ c.into_bytes.ensures) in
     let tokens : c.write_meta.new.out.tokens ≡ key (codes "meta") ∷ json_tokens (outline meta) =
     c.in_ok-write_meta.ensures.tokens
     ∙ ap (λ ts. ts ++ key (codes "meta") ∷ json_tokens (outline meta)) c.new-out.ensures.tokens in
     let told : c.into_inner-whole.result.items
-    ≡ c.push.new.self.items ++ (quoted (codes "meta") ++ 58 ∷ compact_text meta) =
+    ≡ c.push-2.new.self ++ (quoted (codes "meta") ++ 58 ∷ compact_text meta) =
     c.into_inner-whole.ensures.items
     ∙ ((λ i. before i ++ print (tokens i))
-    ∙ ap (λ text. c.push.new.self.items ++ text) (printed_member (codes "meta") meta)) in
+    ∙ ap (λ text. c.push-2.new.self ++ text) (printed_member (codes "meta") meta)) in
     document_text (pairs_object rows net ask c.in_ok-srcs.srcs.items c.in_ok-dsts.dsts.items) meta
-    c.extend_from_slice.new.self.items c.push_section.new.out.items c.push.new.self.items
-    c.into_inner-whole.result.items c.push-2.new.self.items
-    opened c.in_ok-push_section.ensures c.in_ok-push.ensures.items told c.in_ok-push-2.ensures.items
+    c.push.new.self c.push_section.new.out c.push-2.new.self
+    c.into_inner-whole.result.items c.push-3.new.self.items
+    opened c.in_ok-push_section.ensures c.in_ok-push-2.ensures told c.in_ok-push-3.ensures.items
     ∙ (λ i. compact_text (object_of ((codes "meta", meta)
     ∷ (codes "endpoint-cost-map", pairs_object rows net ask (srcs i) (dsts i)) ∷ [])))

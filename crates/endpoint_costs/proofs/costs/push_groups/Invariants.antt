@@ -10,6 +10,6 @@ use Rattle.endpoint_costs.proofs.costs.push_groups.Given as goal
 -- what is there, and the groups of the sources that are left, make all groups
 abbrev pub invariant-loop-at : goal.invariant-loop-at
 invariant-loop-at l = (names : List Name) → l.dsts ≡ map member_start names
-    → l.out.items ++ members_text l.later
+    → l.out ++ members_text l.later
     (members_in_order (groups_at l.multi names (drop l.at l.srcs) (drop l.at l.pairs)))
-    ≡ l.initial.out.items ++ members_text false (members_in_order (groups_at l.multi names l.srcs l.pairs))
+    ≡ l.initial.out ++ members_text false (members_in_order (groups_at l.multi names l.srcs l.pairs))

@@ -54,7 +54,7 @@ returns g c =
     (groups_at c.ask.inside.multi (names to) c.deref-9.result.now c.in_ok-between.between) in
     on_ok_weaker c.push_groups.result
     (λ put. put (names to) starts
-    ∙ (ap (λ bytes. bytes ++ members_text false members) c.in_ok-push.ensures.items
-    ∙ (append_assoc c.args.out.now.items (123 ∷ []) (members_text false members)
-    ∙ ap (λ (d : Data). c.args.out.now.items ++ compact_text d) whole)))
+    ∙ (ap (λ bytes. bytes ++ members_text false members) c.in_ok-push.ensures
+    ∙ (append_assoc c.args.out.now (123 ∷ []) (members_text false members)
+    ∙ ap (λ (d : Data). c.args.out.now ++ compact_text d) whole)))
     c.push_groups.ensures

@@ -17,8 +17,8 @@ returns c name is =
     let src = c.args.src in
     let dst = c.args.dst in
     let multi = c.args.multi in
-    let old = c.args.out.now.items in
-    let put = c.push_made.new.out.items in
+    let old = c.args.out.now in
+    let put = c.push_made.new.out in
     let costs = c.self.inside.costs.items in
     let all = costs_at dst (columns_at src costs) in
     let there : is_some (if_there (slice_get (pairs_at c.args.self.now src) dst)) ≡ true =
@@ -33,17 +33,17 @@ returns c name is =
     c.self.view_is in
     let named : put ≡ (old ++ comma_if c.args.later) ++ (quoted name ++ 58 ∷ []) =
     c.in_ok-push_made.ensures name is ∙ sym (append_assoc old (comma_if c.args.later) (quoted name ++ 58 ∷ [])) in
-    let whole : c.push_costs.new.out.items ≡ put ++ compact_text (costs_data multi all) =
+    let whole : c.push_costs.new.out ≡ put ++ compact_text (costs_data multi all) =
     c.in_ok-push_costs.ensures
     ∙ ap (λ (columns : List Costs). put ++ compact_text (costs_data multi (costs_at dst (columns_at src columns))))
     c.deref.ensures.value in
-    subst (λ (d : Option Data). PutsIfAny name d c.args.later old true c.push_costs.new.out.items) value
+    subst (λ (d : Option Data). PutsIfAny name d c.args.later old true c.push_costs.new.out) value
     (member_put name (costs_data multi all) c.args.later old (old ++ comma_if c.args.later) put
-    c.push_costs.new.out.items (λ i. old ++ comma_if c.args.later) named whole)
+    c.push_costs.new.out (λ i. old ++ comma_if c.args.later) named whole)
 
 pub returns-then-not-is_pair : goal.returns-then-not-is_pair
 returns-then-not-is_pair c name is =
-    let old = c.args.out.now.items in
+    let old = c.args.out.now in
     let found = if_there (slice_get (pairs_at c.args.self.now c.args.src) c.args.dst) in
     subst (λ (d : Option Data). PutsIfAny name d c.args.later old c.args.later old)
     (sym (no_pair (costs_data c.args.multi) found (sym c.if-not-is_pair.ensures))) (none_put name c.args.later old)

@@ -8,10 +8,10 @@ use Rattle.cost_filters.proofs.starts.MemberStarts.with.Goals as goal
 
 pub returns : goal.returns
 returns c =
-    let bytes = c.self.inside.bytes.items in
+    let bytes = c.self.inside.bytes in
     let places = c.self.inside.places.items in
     let more = member_start c.args.name.now in
-    let put : c.put_start.new.out.items ≡ bytes ++ more = c.in_ok-place.ensures.text in
+    let put : c.put_start.new.out ≡ bytes ++ more = c.in_ok-place.ensures.text in
     let place : c.in_ok-place.place ≡ (length bytes, length (bytes ++ more)) =
     c.in_ok-place.ensures.place ∙ ap (λ (now : List ℕ). (length bytes, length now)) put in
     (λ i. texts_at (put i) (c.in_ok-push.ensures.items i))
@@ -21,14 +21,14 @@ returns c =
 
 pub invariant_of-result : goal.invariant_of-result
 invariant_of-result c =
-    let bytes = c.self.inside.bytes.items in
+    let bytes = c.self.inside.bytes in
     let places = c.self.inside.places.items in
     let more = member_start c.args.name.now in
-    let put : c.put_start.new.out.items ≡ bytes ++ more = c.in_ok-place.ensures.text in
+    let put : c.put_start.new.out ≡ bytes ++ more = c.in_ok-place.ensures.text in
     let place : c.in_ok-place.place ≡ (length bytes, length (bytes ++ more)) =
     c.in_ok-place.ensures.place ∙ ap (λ (now : List ℕ). (length bytes, length now)) put in
     let all : c.push.new.self.items ≡ places ++ (length bytes, length (bytes ++ more)) ∷ [] =
     c.in_ok-push.ensures.items ∙ (λ i. places ++ place i ∷ []) in
-    subst (AreWithin c.put_start.new.out.items) (sym all)
+    subst (AreWithin c.put_start.new.out) (sym all)
     (subst (λ (now : List ℕ). AreWithin now (places ++ (length bytes, length (bytes ++ more)) ∷ [])) (sym put)
     (within_more bytes more places c.self.invariant))

@@ -3,12 +3,13 @@ use Rattle.std.specs.Prelude.{List, false}
 use Rattle.serde_json.specs.Written.{members_text}
 use Rattle.json_tree.specs.Tree.{members_in_order}
 use Rattle.alto_maps.specs.Shape.{Name}
+use Rattle.cost_filters.specs.Between.{one_cost}
 use Rattle.cost_filters.specs.Text.{member_start, shown_members}
-use Rattle.cost_filters.proofs.groups.push_members.Given as goal
+use Rattle.cost_filters.proofs.pairs_from.push_costs.Given as goal
 
 -- what is there, and the destinations that are left, make all members
 abbrev pub invariant-loop-at : goal.invariant-loop-at
 invariant-loop-at l = (names : List Name) → l.dsts ≡ map member_start names
-    → l.out.items ++ members_text l.later
-    (members_in_order (shown_members l.multi (drop l.at names) (drop l.at l.pairs)))
-    ≡ l.initial.out.items ++ members_text false (members_in_order (shown_members l.multi names l.pairs))
+    → l.out ++ members_text l.later
+    (members_in_order (shown_members l.multi (drop l.at names) (drop l.at (map one_cost l.costs))))
+    ≡ l.initial.out ++ members_text false (members_in_order (shown_members l.multi names (map one_cost l.costs)))

@@ -2,12 +2,13 @@ use Rattle.std.proofs.Common.{◌≡◌, ◌∷◌, ◌∙◌, ◌+◌, ◌<◌,
 use Rattle.std.proofs.Common.{refl}
 use Rattle.std.proofs.lemmas.List.{drop_more, length-map}
 use Rattle.std.specs.Prelude.{ℕ, List, option_map, slice_get, unwrap_or}
+use Rattle.cost_filters.specs.Between.{pairs_at}
 use Rattle.cost_filters.specs.Filter.{costs_data}
 use Rattle.cost_filters.specs.Pairs.{if_there}
 use Rattle.cost_filters.specs.Text.{PutsIfAny, member_start}
 use Rattle.cost_filters.proofs.BetweenLemmas.{made_at}
 use Rattle.cost_filters.proofs.TextLemmas.{shown_more}
-use Rattle.cost_filters.proofs.groups.push_members.Goals as goal
+use Rattle.cost_filters.proofs.pairs_between.PairsBetween.push_members.Goals as goal
 
 pub loop-at-init : goal.loop-at-init
 loop-at-init c names are = refl
@@ -15,7 +16,7 @@ loop-at-init c names are = refl
 pub loop-at-preserved : goal.loop-at-preserved
 loop-at-preserved c names are =
     let l = c.loop-at in
-    let row = c.args.pairs.now in
+    let row = pairs_at c.args.self.now c.args.src in
     let dst = get_or names l.at [] in
     let count : c.count-at-end.result ≡ length names =
     c.count-at-end.ensures ∙ (ap length are ∙ length-map names member_start) in
@@ -26,7 +27,7 @@ loop-at-preserved c names are =
     ∙ (ap (λ (texts : List (List ℕ)). unwrap_or (slice_get texts l.at) []) are
     ∙ made_at member_start names l.at [] within) in
     let value = option_map (costs_data c.args.multi) (if_there (slice_get row l.at)) in
-    let put : PutsIfAny dst value l.later l.out.items c.in_ok-later.later c.push_pair.new.out.items =
+    let put : PutsIfAny dst value l.later l.out c.in_ok-later.later c.push_pair.new.out =
     c.in_ok-later.ensures dst start in
     shown_more c.args.multi dst (drop l.at names) (drop (l.at + 1) names) row l.at l.later
-    c.in_ok-later.later l.out.items c.push_pair.new.out.items step put ∙ l.invariant names are
+    c.in_ok-later.later l.out c.push_pair.new.out step put ∙ l.invariant names are
