@@ -2,3 +2,4 @@ pub mod ReadingLemmas
 pub mod OnceLemmas
 pub mod EntryLemmas
 pub mod TextLemmas
+pub mod OrderedLemmas

@@ -11,7 +11,8 @@ use Rattle.cost_filters.proofs.PlainLemmas.{plain_text}
 pub section_opened : 123 ∷ (34 ∷ (codes "endpoint-cost-map" ++ 34 ∷ 58 ∷ []))
     ≡ 123 ∷ (quoted (codes "endpoint-cost-map") ++ 58 ∷ [])
 section_opened =
-    ap (λ (text : List ℕ). 123 ∷ ((34 ∷ (text ++ 34 ∷ [])) ++ 58 ∷ [])) (sym (plain_text (codes "endpoint-cost-map") refl))
+    ap (λ (text : List ℕ). 123 ∷ ((34 ∷ (text ++ 34 ∷ [])) ++ 58 ∷ []))
+    (sym (plain_text (codes "endpoint-cost-map") refl))
 
 -- the groups, and behind them the meta
 pub document_text : (groups value : Data) (opened section comma meta whole : List ℕ)

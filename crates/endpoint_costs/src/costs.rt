@@ -13,7 +13,7 @@ ghost use Rattle.endpoint_costs.specs.Entries.{IsWritten, groups_at};
 
 use crate::ask::EndAsk;
 use crate::endpoint::{Endpoint, endpoints_at};
-use crate::entries::{Entry, entries_of, pids_of, starts_of};
+use crate::ordered::{in_order, pids_of, starts_of};
 use alto_addr::Addr;
 use alto_names::NetName;
 use alto_rows::RowStore;
@@ -98,8 +98,8 @@ fn push_section<R: RowStore>(
         &ask.tested,
         &ask.alternatives,
     )?;
-    let srcs = entries_of(alloc, srcs)?;
-    let dsts = entries_of(alloc, dsts)?;
+    let srcs = in_order(srcs);
+    let dsts = in_order(dsts);
     let starts = starts_of(alloc, &dsts)?;
     let between = pairs.between(alloc, &pids_of(alloc, &srcs)?, &pids_of(alloc, &dsts)?)?;
     out.push(b"{")?;
@@ -109,7 +109,7 @@ fn push_section<R: RowStore>(
 /// Puts the groups of the sources that have a pair, with the brace behind them.
 fn push_groups(
     multi: bool,
-    srcs: &[Entry],
+    srcs: &[Endpoint],
     dsts: &MemberStarts,
     pairs: &PairsBetween,
     out: &mut TextBuffer,
@@ -121,7 +121,7 @@ fn push_groups(
     let mut later = false;
     for (at, src) in srcs.iter().enumerate() {
         let found = pairs.from_source(at);
-        later = push_group(multi, src.0.as_str(), dsts, &found, later, out)?;
+        later = push_group(multi, src.text.as_str(), dsts, &found, later, out)?;
     }
     out.push(b"}")?;
     Ok(())

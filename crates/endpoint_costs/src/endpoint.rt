@@ -1,4 +1,8 @@
-ghost use Rattle.std.specs.Prelude.{◌≡◌, IfOk, IfSome, option_map};
+ghost use Rattle.std.specs.Prelude.{◌≡◌, nat_eq, refl, IfOk, IfSome, Some, option_map};
+ghost use Rattle.std.specs.Cmp.{on_equiv, on_per, on_po, on_total, partial_equiv_from_equiv};
+ghost use Rattle.std.specs.Cmp.Lexicographic.{pointwise, slice_cmp, nat_list_eq_equiv, nat_list_cmp_total, texts_po};
+ghost use Rattle.std.specs.Cmp.Lexicographic.{texts_ties};
+ghost use Rattle.std.specs.Ordering.{nat_cmp};
 ghost use Rattle.std.specs.List.{AllByRecursion};
 ghost use Rattle.alto_rows.specs.Entities.{WritesTypedAddr, typed_addr_text};
 ghost use Rattle.endpoint_costs.specs.Costs.{addrs_at, endpoint_of, endpoints_of};
@@ -10,13 +14,52 @@ use cost_tables::PidText;
 use json_tree::Name;
 use pid_prefix::RangeTable;
 use std::alloc::{AllocError, Global};
+use std::cmp::Ordering;
 
-/// An address in a PID.
+/// An address in a PID. Endpoints are compared by their texts alone, which tell their PIDs.
 #[derive(Drop)]
 pub(crate) struct Endpoint<'a> {
     /// What is written of the address behind its type.
     pub(crate) text: Name,
     pub(crate) pid: PidText<'a>,
+}
+
+impl<'a> PartialEq for Endpoint<'a> {
+    ghost eq = { λ one other. pointwise nat_eq one.text other.text };
+
+    ghost laws = { on_per (λ end. end.text) (partial_equiv_from_equiv nat_list_eq_equiv) };
+
+    fn eq(&self, other: &Self) -> bool {
+        self.text == other.text
+    }
+}
+
+impl<'a> Eq for Endpoint<'a> {
+    ghost laws = { on_equiv (λ end. end.text) nat_list_eq_equiv };
+}
+
+impl<'a> PartialOrd for Endpoint<'a> {
+    ghost partial_cmp = { λ one other. Some (slice_cmp nat_cmp one.text other.text) };
+
+    ghost laws = { on_po (λ end. end.text) texts_po };
+
+    fn partial_cmp(&self, other: &Self) -> Option<Ordering> {
+        Some(self.cmp(other))
+    }
+}
+
+impl<'a> Ord for Endpoint<'a> {
+    ghost cmp = { λ one other. slice_cmp nat_cmp one.text other.text };
+
+    ghost total = { on_total (λ end. end.text) nat_list_cmp_total };
+
+    ghost matches_partial_cmp = { λ one other. refl };
+
+    ghost matches_eq = { λ one other. texts_ties one.text other.text };
+
+    fn cmp(&self, other: &Self) -> Ordering {
+        self.text.cmp(&other.text)
+    }
 }
 
 /// The endpoints at one end: those of the addresses that are given, else that of the client's own, if it is known.

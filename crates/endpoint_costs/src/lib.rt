@@ -14,8 +14,8 @@ mod addrs;
 mod ask;
 mod costs;
 mod endpoint;
-mod entries;
 mod laws;
+mod ordered;
 
 pub use ask::{EndAsk, read_end_ask};
 pub use costs::endpoint_cost_text;

@@ -25,13 +25,13 @@ loop-at-preserved c names are =
     rw (drop_more srcs l.at src c.loop-at-test.true, ← c.index-srcs-at.is) refl in
     let value = found_object multi names (pairs_at pairs l.at) in
     let more = groups_at multi names left (drop (l.at + 1) pairs) in
-    let put : PutsIfAny src.0 value l.later l.out c.in_ok-later.later c.push_group.new.out =
+    let put : PutsIfAny src.text value l.later l.out c.in_ok-later.later c.push_group.new.out =
     subst (λ (name : Name). PutsIfAny name value l.later l.out c.in_ok-later.later c.push_group.new.out)
     c.as_str.ensures.value
     (subst (λ (found : Found). PutsIfAny c.as_str.result.now (found_object multi names found) l.later l.out
     c.in_ok-later.later c.push_group.new.out) c.from_source-found.ensures
     (c.in_ok-later.ensures names are)) in
-    any_more src.0 value more l.later c.in_ok-later.later l.out c.push_group.new.out put
+    any_more src.text value more l.later c.in_ok-later.later l.out c.push_group.new.out put
     ∙ (ap (λ ms. l.out ++ members_text l.later (members_in_order ms))
     (sym (ap (λ left. groups_at multi names left (drop l.at pairs)) step ∙ groups_next multi names src left pairs l.at))
     ∙ l.invariant names are)

@@ -10,8 +10,8 @@ use Rattle.cost_filters.specs.Pairs.{pair_costs, pairs_of}
 use Rattle.endpoint_costs.specs.Ask.{EndAskData}
 use Rattle.endpoint_costs.specs.Costs.{pairs_object, pid_ask}
 use Rattle.cost_filters.specs.Text.{member_start}
-use Rattle.endpoint_costs.specs.Entries.{entries_of, groups_at}
-use Rattle.endpoint_costs.proofs.EntryLemmas.{entry_pids, found_of, groups_are, names}
+use Rattle.endpoint_costs.specs.Entries.{groups_at, pids, texts}
+use Rattle.endpoint_costs.proofs.EntryLemmas.{found_of, groups_are}
 use Rattle.endpoint_costs.proofs.costs.push_section.Goals as goal
 
 pub returns : goal.returns
@@ -32,28 +32,27 @@ returns g c =
       alternatives = map (λ constraints. constraints.items) (c.deref-3.ensures.value i);
     })
     ∙ ap (λ (asked : EndAskData). pairs_of rows net (pid_ask asked)) c.ask.view_is) in
-    let from = entries_of srcs in
-    let to = entries_of dsts in
-    let first : c.in_ok-srcs.srcs.items ≡ from = c.in_ok-srcs.ensures in
-    let second : c.in_ok-dsts.dsts.items ≡ to = c.in_ok-dsts.ensures in
-    let src_pids : c.deref-6.result.now ≡ entry_pids from =
-    c.deref-6.ensures.value ∙ (c.in_ok-pids_of.ensures ∙ ap entry_pids (c.deref-5.ensures.value ∙ first)) in
-    let dst_pids : c.deref-8.result.now ≡ entry_pids to =
-    c.deref-8.ensures.value ∙ (c.in_ok-pids_of-2.ensures ∙ ap entry_pids (c.deref-7.ensures.value ∙ second)) in
+    let from = c.in_order-srcs.result.items in
+    let to = c.in_order-dsts.result.items in
+    let src_pids : c.deref-6.result.now ≡ pids from =
+    c.deref-6.ensures.value ∙ (c.in_ok-pids_of.ensures ∙ ap pids c.deref-5.ensures.value) in
+    let dst_pids : c.deref-8.result.now ≡ pids to =
+    c.deref-8.ensures.value ∙ (c.in_ok-pids_of-2.ensures ∙ ap pids c.deref-7.ensures.value) in
     let found : c.in_ok-between.between ≡ found_of (pairs_of rows net (pid_ask ask)) from to =
     c.in_ok-between.ensures ∙ (λ i. map (λ src. map (pair_costs (made i) src) (dst_pids i)) (src_pids i)) in
-    let starts : c.in_ok-starts.starts ≡ map member_start (names to) =
-    c.in_ok-starts.ensures ∙ ap (λ entries. map member_start (names entries)) (c.deref-4.ensures.value ∙ second) in
+    let starts : c.in_ok-starts.starts ≡ map member_start (texts to) =
+    c.in_ok-starts.ensures ∙ ap (λ ends. map member_start (texts ends)) c.deref-4.ensures.value in
     let whole : object (members_in_order
-    (groups_at c.ask.inside.multi (names to) c.deref-9.result.now c.in_ok-between.between))
+    (groups_at c.ask.inside.multi (texts to) c.deref-9.result.now c.in_ok-between.between))
     ≡ pairs_object rows net ask srcs dsts =
     (λ i. object (members_in_order
-    (groups_at (multi i) (names to) ((c.deref-9.ensures.value ∙ first) i) (found i))))
-    ∙ groups_are rows net ask (prefixes_in rows net) srcs dsts c.requires.srcs c.requires.dsts in
+    (groups_at (multi i) (texts to) (c.deref-9.ensures.value i) (found i))))
+    ∙ groups_are rows net ask (prefixes_in rows net) srcs dsts from to c.requires.srcs c.requires.dsts
+    c.in_order-srcs.ensures c.in_order-dsts.ensures in
     let members = members_in_order
-    (groups_at c.ask.inside.multi (names to) c.deref-9.result.now c.in_ok-between.between) in
+    (groups_at c.ask.inside.multi (texts to) c.deref-9.result.now c.in_ok-between.between) in
     on_ok_weaker c.push_groups.result
-    (λ put. put (names to) starts
+    (λ put. put (texts to) starts
     ∙ (ap (λ bytes. bytes ++ members_text false members) c.in_ok-push.ensures
     ∙ (append_assoc c.args.out.now (123 ∷ []) (members_text false members)
     ∙ ap (λ (d : Data). c.args.out.now ++ compact_text d) whole)))
