@@ -1,5 +1,6 @@
 -- The text of the document of a PID: no byte of a PID is escaped.
-use Rattle.std.proofs.Common.{◌≡◌, ℕ, ◌+◌, Bool, true, false, cond, not, List, [], ◌∷◌, ◌++◌, Option, Some, None, Ok, Err}
+use Rattle.std.proofs.Common.{◌≡◌, ℕ, ◌+◌, Bool, true, false, cond, not, List, [], ◌∷◌, ◌++◌, Option, Some, None}
+use Rattle.std.proofs.Common.{Ok, Err}
 use Rattle.std.proofs.Common.{codes, refl, ap, sym, ◌∙◌, arith, append_assoc}
 use Rattle.std.proofs.lemmas.Bool.Decides.{nat_tests}
 use Rattle.std.specs.List.{flat_map, list_all, position_from}
@@ -45,7 +46,8 @@ unfolding escape_byte with_member
 pid_written bytes pid same is =
     let text : flat_map escape_byte pid ≡ pid = plain_text pid (pid_plain pid is) in
     ap (λ (xs : List ℕ). 123 ∷ 34 ∷ (codes "pid" ++ (34 ∷ 58 ∷ 34 ∷ (xs ++ 34 ∷ 125 ∷ [])))) same
-    ∙ ap (λ (xs : List ℕ). 123 ∷ 34 ∷ (codes "pid" ++ (34 ∷ 58 ∷ 34 ∷ xs))) (sym (append_assoc pid (34 ∷ []) (125 ∷ [])))
+    ∙ ap (λ (xs : List ℕ). 123 ∷ 34 ∷ (codes "pid" ++ (34 ∷ 58 ∷ 34 ∷ xs)))
+    (sym (append_assoc pid (34 ∷ []) (125 ∷ [])))
     ∙ ap (λ (xs : List ℕ). 123 ∷ 34 ∷ (codes "pid" ++ (34 ∷ 58 ∷ 34 ∷ ((xs ++ 34 ∷ []) ++ 125 ∷ [])))) (sym text)
 
 -- the text of the document that tells that there is none

@@ -23,7 +23,15 @@ fn names(value: &[u8], wanted: &[u8]) -> bool
     requires { str_to_ascii_lowercase wanted.now ≡ wanted.now }
     ensures { result ≡ same_name (media_type value.now) wanted.now }
 {
-    trim(before_parameters(value)).eq_ignore_ascii_case(wanted)
+    is_type(trim(before_parameters(value)), wanted)
+}
+
+/// Whether a text is this media type. Most clients write it in lower case.
+fn is_type(text: &[u8], wanted: &[u8]) -> bool
+    requires { str_to_ascii_lowercase wanted.now ≡ wanted.now }
+    ensures { result ≡ same_name (str_to_ascii_lowercase text.now) wanted.now }
+{
+    text == wanted || text.eq_ignore_ascii_case(wanted)
 }
 
 pub(crate) fn before_parameters(value: &[u8]) -> &[u8]
