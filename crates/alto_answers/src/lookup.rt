@@ -19,6 +19,7 @@ use alto_rows::{RowStore, read_typed_addr};
 use alto_versions::Front;
 use pid_prefix::RangeTable;
 use std::alloc::{AllocError, Global};
+use text_buffer::TextBuffer;
 
 /// The length of the longest body: a PID of 64 bytes, and the ten bytes round it.
 const LONGEST: usize = 74;
@@ -88,9 +89,9 @@ fn pid_text(alloc: Global, pid: Option<&PidName>) -> Result<Vec<u8>, AllocError>
 fn between(alloc: Global, first: &[u8], text: &[u8], last: &[u8]) -> Result<Vec<u8>, AllocError>
     ensures { IfOk result (λ bytes. bytes.items ≡ first.now ++ (text.now ++ last.now)) }
 {
-    let mut bytes = Vec::with_capacity(alloc, LONGEST)?;
-    bytes.extend_from_slice(first)?;
-    bytes.extend_from_slice(text)?;
-    bytes.extend_from_slice(last)?;
-    Ok(bytes)
+    let mut bytes = TextBuffer::with_room(alloc, LONGEST)?;
+    bytes.push(first)?;
+    bytes.push(text)?;
+    bytes.push(last)?;
+    Ok(bytes.into_bytes())
 }

@@ -1,5 +1,5 @@
 ghost use Rattle.std.specs.Prelude.{◌≡◌, ◌≢◌, true, [], ◌++◌, codes, decimal, length, is_some, unwrap_or, Some, IfOk};
-ghost use Rattle.std.specs.Prelude.{OnOk, IsTrue, string_bytes};
+ghost use Rattle.std.specs.Prelude.{OnOk, IsTrue};
 ghost use Rattle.alto_replies.specs.Reply.{IsReply, bytes_of, head_of, phrase_of, status_line, type_field};
 ghost use Rattle.alto_replies.specs.Reply.{length_field, line, verb_text, allow_field, close_field};
 ghost use Rattle.alto_http.specs.declared.request.Verb.TheVariants as verb;
@@ -7,8 +7,8 @@ ghost use Rattle.alto_http.specs.declared.request.Verb.TheVariants as verb;
 use crate::body::Body;
 use crate::reply::Reply;
 use alto_http::Verb;
-use itoa::Buffer;
 use std::alloc::{AllocError, Global};
+use text_buffer::TextBuffer;
 
 /// Room for a head, which few are longer than.
 const HEAD_BYTES: usize = 256;
@@ -23,7 +23,7 @@ pub fn reply_bytes(alloc: Global, reply: &Reply, close: bool) -> Result<Vec<u8>,
     requires { IsReply reply.now }
     ensures { IfOk result (λ bytes. bytes.items ≡ bytes_of reply.now close) }
 {
-    let mut bytes = head(alloc, reply, close)?.into_bytes();
+    let mut bytes = head(alloc, reply, close)?;
     reply.body.append_to(&mut bytes)?;
     Ok(bytes)
 }
@@ -40,33 +40,33 @@ pub fn reply_parts(alloc: Global, reply: Reply, close: bool) -> Result<(Vec<u8>,
         return Ok((bytes, Body::of_bytes(Vec::new(alloc))));
     }
     let head = head(alloc, &reply, close)?;
-    Ok((head.into_bytes(), reply.body))
+    Ok((head, reply.body))
 }
 
 /// The status line and the fields, with the empty line after them, with room for a body behind them.
-fn head(alloc: Global, reply: &Reply, close: bool) -> Result<String, AllocError>
+fn head(alloc: Global, reply: &Reply, close: bool) -> Result<Vec<u8>, AllocError>
     requires { IsReply reply.now }
-    ensures { IfOk result (λ head. string_bytes head ≡ head_of reply.now close) }
+    ensures { IfOk result (λ head. head.items ≡ head_of reply.now close) }
 {
     let length = reply.body.len()?;
-    let mut head = String::with_capacity(alloc, length.min(LONGEST_COPIED) + HEAD_BYTES)?;
+    let mut head = TextBuffer::with_room_before(alloc, HEAD_BYTES, length.min(LONGEST_COPIED))?;
     write_first_lines(&mut head, reply.status, reply.content_type, length)?;
     write_allow(&mut head, reply.allow)?;
     write_close(&mut head, close)?;
-    head.push_str("\r\n")?;
-    Ok(head)
+    head.push(b"\r\n")?;
+    Ok(head.into_bytes())
 }
 
 /// Writes the status line, and the fields that each reply has. Most replies have the status 200.
 fn write_first_lines(
-    head: &mut String,
+    head: &mut TextBuffer,
     status: u16,
     media_type: &str,
     size: usize,
 ) -> Result<(), AllocError>
     requires { is_some (phrase_of status) ≡ true }
-    ensures { OnOk result (string_bytes head.new
-        ≡ string_bytes head.old ++ (status_line status ++ type_field media_type.now ++ length_field size)) }
+    ensures { OnOk result (head.new
+        ≡ head.old ++ (status_line status ++ type_field media_type.now ++ length_field size)) }
 {
     if status == 200 {
         return write_ok(head, media_type, size);
@@ -77,45 +77,42 @@ fn write_first_lines(
 }
 
 /// The same of the status 200, in few calls.
-fn write_ok(head: &mut String, media_type: &str, size: usize) -> Result<(), AllocError>
-    ensures { OnOk result (string_bytes head.new
-        ≡ string_bytes head.old ++ (status_line 200 ++ type_field media_type.now ++ length_field size)) }
+fn write_ok(head: &mut TextBuffer, media_type: &str, size: usize) -> Result<(), AllocError>
+    ensures { OnOk result (head.new
+        ≡ head.old ++ (status_line 200 ++ type_field media_type.now ++ length_field size)) }
 {
-    let mut digits = Buffer::new();
     write_texts(head, "HTTP/1.1 200 OK\r\nContent-Type: ", media_type)?;
-    write_line(head, "\r\nContent-Length: ", digits.format(size))
+    write_number(head, "\r\nContent-Length: ", size)
 }
 
 #[tactic(auto, unfolding(crate::specs::Reply::status_line))]
-fn write_status(head: &mut String, status: u16) -> Result<(), AllocError>
+fn write_status(head: &mut TextBuffer, status: u16) -> Result<(), AllocError>
     requires { is_some (phrase_of status) ≡ true }
-    ensures { OnOk result (string_bytes head.new ≡ string_bytes head.old ++ status_line status) }
+    ensures { OnOk result (head.new ≡ head.old ++ status_line status) }
 {
-    let mut digits = Buffer::new();
-    head.push_str("HTTP/1.1 ")?;
-    head.push_str(digits.format(status))?;
+    head.push(b"HTTP/1.1 ")?;
+    head.push_number(status.into())?;
     write_line(head, " ", phrase(status))
 }
 
 #[tactic(auto, unfolding(crate::specs::Reply::type_field))]
-fn write_type(head: &mut String, media_type: &str) -> Result<(), AllocError>
-    ensures { OnOk result (string_bytes head.new ≡ string_bytes head.old ++ type_field media_type.now) }
+fn write_type(head: &mut TextBuffer, media_type: &str) -> Result<(), AllocError>
+    ensures { OnOk result (head.new ≡ head.old ++ type_field media_type.now) }
 {
     write_line(head, "Content-Type: ", media_type)
 }
 
 #[tactic(auto, unfolding(crate::specs::Reply::length_field))]
-fn write_length(head: &mut String, size: usize) -> Result<(), AllocError>
-    ensures { OnOk result (string_bytes head.new ≡ string_bytes head.old ++ length_field size) }
+fn write_length(head: &mut TextBuffer, size: usize) -> Result<(), AllocError>
+    ensures { OnOk result (head.new ≡ head.old ++ length_field size) }
 {
-    let mut digits = Buffer::new();
-    write_line(head, "Content-Length: ", digits.format(size))
+    write_number(head, "Content-Length: ", size)
 }
 
 #[tactic(auto, unfolding(crate::specs::Reply::allow_field))]
-fn write_allow(head: &mut String, allow: Option<Verb>) -> Result<(), AllocError>
+fn write_allow(head: &mut TextBuffer, allow: Option<Verb>) -> Result<(), AllocError>
     requires { allow ≢ Some verb.Other }
-    ensures { OnOk result (string_bytes head.new ≡ string_bytes head.old ++ allow_field allow) }
+    ensures { OnOk result (head.new ≡ head.old ++ allow_field allow) }
 {
     match allow {
         Some(method) => write_line(head, "Allow: ", method_text(method)),
@@ -124,30 +121,39 @@ fn write_allow(head: &mut String, allow: Option<Verb>) -> Result<(), AllocError>
 }
 
 /// Writes a text, and one behind it.
-fn write_texts(head: &mut String, first: &str, second: &str) -> Result<(), AllocError>
-    ensures { OnOk result (string_bytes head.new ≡ string_bytes head.old ++ (first.now ++ second.now)) }
+fn write_texts(head: &mut TextBuffer, first: &str, second: &str) -> Result<(), AllocError>
+    ensures { OnOk result (head.new ≡ head.old ++ (first.now ++ second.now)) }
 {
-    head.push_str(first)?;
-    head.push_str(second)
+    head.push(first.as_bytes())?;
+    head.push(second.as_bytes())
+}
+
+/// Writes the rest of a line: a text, and a number behind it.
+fn write_number(head: &mut TextBuffer, text: &str, number: usize) -> Result<(), AllocError>
+    ensures { OnOk result (head.new ≡ head.old ++ line (text.now ++ decimal number)) }
+{
+    head.push(text.as_bytes())?;
+    head.push_number(number as u64)?;
+    head.push(b"\r\n")
 }
 
 /// Writes a line, or the rest of one: a text, and one behind it.
-fn write_line(head: &mut String, first: &str, second: &str) -> Result<(), AllocError>
-    ensures { OnOk result (string_bytes head.new ≡ string_bytes head.old ++ line (first.now ++ second.now)) }
+fn write_line(head: &mut TextBuffer, first: &str, second: &str) -> Result<(), AllocError>
+    ensures { OnOk result (head.new ≡ head.old ++ line (first.now ++ second.now)) }
 {
-    head.push_str(first)?;
-    head.push_str(second)?;
-    head.push_str("\r\n")
+    head.push(first.as_bytes())?;
+    head.push(second.as_bytes())?;
+    head.push(b"\r\n")
 }
 
 #[tactic(auto, unfolding(crate::specs::Reply::close_field))]
-fn write_close(head: &mut String, close: bool) -> Result<(), AllocError>
-    ensures { OnOk result (string_bytes head.new ≡ string_bytes head.old ++ close_field close) }
+fn write_close(head: &mut TextBuffer, close: bool) -> Result<(), AllocError>
+    ensures { OnOk result (head.new ≡ head.old ++ close_field close) }
 {
     if !close {
         return Ok(());
     }
-    head.push_str("Connection: close\r\n")
+    head.push(b"Connection: close\r\n")
 }
 
 fn phrase(status: u16) -> &'static str

@@ -11,4 +11,3 @@ pub mod PlainLemmas
 pub mod StartsLemmas
 pub mod BetweenLemmas
 pub mod NamesLemmas
-pub mod DigitsLemmas

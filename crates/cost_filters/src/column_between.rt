@@ -13,12 +13,12 @@ ghost use Rattle.cost_filters.specs.Pairs.{costs_at, has_cost};
 
 use crate::columns::{Column, Scale, scaled};
 use crate::text::{push_comma, push_cost};
-use crate::text_buffer::TextBuffer;
 use crate::types::CostType;
 use alto_names::NetName;
 use cost_tables::{CostTables, PidText};
 use std::alloc::{AllocError, Global};
 use std::marker::Model;
+use text_buffer::TextBuffer;
 
 /// The costs of a column between sources and destinations. A contract sees them as they are told: by source, for each
 /// destination.

@@ -23,7 +23,6 @@ use crate::destinations::{Destinations, starts_of};
 use crate::groups::push_group;
 use crate::names::{names_given, pids_unless_given, srcs_among, texts_of};
 use crate::pairs::Pairs;
-use crate::text_buffer::TextBuffer;
 use crate::types::CostType;
 use crate::writing::write_types;
 use alto_names::NetName;
@@ -33,6 +32,7 @@ use json::Writer;
 use net_docs::write_dependent_tags;
 use std::alloc::{AllocError, Global};
 use std::slice;
+use text_buffer::TextBuffer;
 
 /// Room for a text, which those of most asks don't outgrow.
 const FIRST_ROOM: usize = 8192;

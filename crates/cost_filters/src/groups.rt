@@ -6,8 +6,8 @@ ghost use Rattle.cost_filters.specs.Text.{PutsIfAny, found_object, member_start}
 use crate::pairs_from::PairsFrom;
 use crate::starts::MemberStarts;
 use crate::text::{push_comma, push_name};
-use crate::text_buffer::TextBuffer;
 use std::alloc::AllocError;
+use text_buffer::TextBuffer;
 
 /// Puts the pairs of a source with destinations as a member with its name, if it has any. Tells whether a member stands
 /// before the next.

@@ -24,7 +24,6 @@ mod pairs_from;
 mod picks;
 mod starts;
 mod text;
-mod text_buffer;
 mod types;
 mod writing;
 
@@ -38,6 +37,5 @@ pub use pairs_between::PairsBetween;
 pub use pairs_from::PairsFrom;
 pub use picks::PidPick;
 pub use starts::MemberStarts;
-pub use text_buffer::TextBuffer;
 pub use types::{AskedTypes, CostType, read_types};
 pub use writing::write_types;

@@ -12,9 +12,9 @@ ghost use Rattle.cost_filters.specs.Text.{PutsIfAny, member_start, shown_members
 use crate::column_between::{ColumnBetween, has_cost, push_costs};
 use crate::pairs_from::PairsFrom;
 use crate::starts::{MemberStarts, push_made};
-use crate::text_buffer::TextBuffer;
 use std::alloc::AllocError;
 use std::marker::Model;
+use text_buffer::TextBuffer;
 
 /// The pairs between sources and destinations. A contract sees a list for each source: for each destination the costs
 /// by the asked types, in their order, `None` where it is no pair.

@@ -13,9 +13,9 @@ ghost use Rattle.cost_filters.specs.Text.{PutsIfAny, member_start, shown_members
 use crate::pairs_between::PairsBetween;
 use crate::starts::{MemberStarts, push_made};
 use crate::text::push_cost;
-use crate::text_buffer::TextBuffer;
 use std::alloc::AllocError;
 use std::marker::Model;
+use text_buffer::TextBuffer;
 
 /// The pairs from one source. A contract sees for each destination the costs by the asked types, in their order, `None`
 /// where it is no pair.

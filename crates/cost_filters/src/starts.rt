@@ -6,9 +6,9 @@ ghost use Rattle.alto_maps.specs.Shape.{Name};
 ghost use Rattle.cost_filters.specs.Text.{member_start};
 
 use crate::text::push_name;
-use crate::text_buffer::TextBuffer;
 use std::alloc::{AllocError, Global};
 use std::marker::Model;
+use text_buffer::TextBuffer;
 
 /// Room for a name with what stands around it, which few are longer than.
 const COMMON_LENGTH: usize = 24;

@@ -7,9 +7,9 @@ ghost use Rattle.serde_json.specs.Written.{comma_if, compact_text};
 ghost use Rattle.cost_docs.specs.CostMap.{number_data};
 ghost use Rattle.cost_filters.specs.Text.{is_plain};
 
-use crate::text_buffer::TextBuffer;
 use json::Writer;
 use std::alloc::{AllocError, Global};
+use text_buffer::TextBuffer;
 
 /// Puts a comma, where a member or an item stands before.
 pub fn push_comma(later: bool, out: &mut TextBuffer) -> Result<(), AllocError>

@@ -17,11 +17,12 @@ use crate::ordered::{in_order, pids_of, starts_of};
 use alto_addr::Addr;
 use alto_names::NetName;
 use alto_rows::RowStore;
-use cost_filters::{MemberStarts, Pairs, PairsBetween, TextBuffer, push_group, write_types};
+use cost_filters::{MemberStarts, Pairs, PairsBetween, push_group, write_types};
 use cost_tables::CostTables;
 use json::Writer;
 use pid_prefix::RangeTable;
 use std::alloc::{AllocError, Global};
+use text_buffer::TextBuffer;
 
 /// Room for a text, which those of most asks don't outgrow.
 const FIRST_ROOM: usize = 4096;

@@ -18,27 +18,27 @@ regroup : (old status name media end length number : List ℕ)
     ≡ old ++ ((status ++ ((name ++ media) ++ end)) ++ ((length ++ number) ++ end))
 regroup old status name media end length number = simp append_assoc refl
 
-fields : (old media number : List ℕ) (size : ℕ) → number ≡ decimal size
+fields : (old media : List ℕ) (size : ℕ)
     → old ++ ((ok_line ++ ((codes "Content-Type: " ++ media) ++ crlf_bytes))
-    ++ ((codes "Content-Length: " ++ number) ++ crlf_bytes))
+    ++ ((codes "Content-Length: " ++ decimal size) ++ crlf_bytes))
     ≡ old ++ ((status_line 200 ++ type_field media) ++ length_field size)
 unfolding type_field length_field
-fields old media number size is = rw (status_line-ok, is) refl
+fields old media size = rw status_line-ok refl
 
-first_lines : (old middle new media number : List ℕ) (size : ℕ) → number ≡ decimal size
+first_lines : (old middle new media : List ℕ) (size : ℕ)
     → middle ≡ old ++ ((ok_line ++ codes "Content-Type: ") ++ media)
-    → new ≡ middle ++ (((crlf_bytes ++ codes "Content-Length: ") ++ number) ++ crlf_bytes)
+    → new ≡ middle ++ (((crlf_bytes ++ codes "Content-Length: ") ++ decimal size) ++ crlf_bytes)
     → new ≡ old ++ ((status_line 200 ++ type_field media) ++ length_field size)
-first_lines old middle new media number size is begun ended =
+first_lines old middle new media size begun ended =
     let joined : new ≡ (old ++ ((ok_line ++ codes "Content-Type: ") ++ media))
-    ++ (((crlf_bytes ++ codes "Content-Length: ") ++ number) ++ crlf_bytes) =
-    ended ∙ ap (λ xs. xs ++ (((crlf_bytes ++ codes "Content-Length: ") ++ number) ++ crlf_bytes)) begun in
-    joined ∙ regroup old ok_line (codes "Content-Type: ") media crlf_bytes (codes "Content-Length: ") number
-    ∙ fields old media number size is
+    ++ (((crlf_bytes ++ codes "Content-Length: ") ++ decimal size) ++ crlf_bytes) =
+    ended ∙ ap (λ xs. xs ++ (((crlf_bytes ++ codes "Content-Length: ") ++ decimal size) ++ crlf_bytes)) begun in
+    joined ∙ regroup old ok_line (codes "Content-Type: ") media crlf_bytes (codes "Content-Length: ") (decimal size)
+    ∙ fields old media size
 
 pub returns : goal.returns
 unfolding ok_line
 returns c =
-    on_ok_weaker c.write_line.result
-    (first_lines _ _ _ c.args.media_type.now _ c.args.size c.format.ensures.text c.in_ok-write_texts.ensures)
-    c.write_line.ensures
+    on_ok_weaker c.write_number.result
+    (first_lines _ _ _ c.args.media_type.now c.args.size c.in_ok-write_texts.ensures)
+    c.write_number.ensures

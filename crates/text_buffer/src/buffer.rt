@@ -27,7 +27,7 @@ impl Model for TextBuffer {
 
 impl TextBuffer {
     /// Nothing. Takes no memory.
-    pub(crate) fn new(alloc: Global) -> TextBuffer
+    pub fn new(alloc: Global) -> TextBuffer
         ensures { result ≡ [] }
     {
         TextBuffer {
@@ -40,18 +40,29 @@ impl TextBuffer {
     pub fn with_room(alloc: Global, room: usize) -> Result<TextBuffer, AllocError>
         ensures { IfOk result (λ text. text ≡ []) }
     {
-        let mut bytes = Vec::with_capacity(alloc, room)?;
+        TextBuffer::with_room_before(alloc, room, 0)
+    }
+
+    /// The same with memory for so many bytes more, which the vector of `into_bytes` has.
+    pub fn with_room_before(
+        alloc: Global,
+        room: usize,
+        more: usize,
+    ) -> Result<TextBuffer, AllocError>
+        ensures { IfOk result (λ text. text ≡ []) }
+    {
+        let mut bytes = Vec::with_capacity(alloc, room.saturating_add(more))?;
         bytes.resize(room, 0)?;
         Ok(TextBuffer { bytes, end: 0 })
     }
 
     /// Where it takes its memory.
-    pub(crate) fn allocator(&self) -> Global {
+    pub fn allocator(&self) -> Global {
         *self.bytes.allocator()
     }
 
     /// The bytes.
-    pub(crate) fn bytes(&self) -> &[u8]
+    pub fn bytes(&self) -> &[u8]
         ensures { result.now ≡ self.now }
     {
         &self.bytes[..self.end]
@@ -67,7 +78,7 @@ impl TextBuffer {
     }
 
     /// Nothing, with the room of what was here.
-    pub(crate) fn clear(&mut self)
+    pub fn clear(&mut self)
         ensures { self.new ≡ [] }
     {
         self.end = 0;
@@ -87,7 +98,7 @@ impl TextBuffer {
     }
 
     /// Puts a number at the end in decimal digits, which are written where they stay.
-    pub(crate) fn push_number(&mut self, number: u64) -> Result<(), AllocError>
+    pub fn push_number(&mut self, number: u64) -> Result<(), AllocError>
         ensures { OnOk result (self.new ≡ self.old ++ decimal number) }
     {
         let digits = digits_of(number);

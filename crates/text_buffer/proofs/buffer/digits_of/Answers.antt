@@ -1,8 +1,8 @@
 -- One digit more than the greatest power of ten that isn't above the number.
 use Rattle.std.proofs.Common.{arith, sym}
 use Rattle.itoa.proofs.Decimal.{length_one}
-use Rattle.cost_filters.proofs.DigitsLemmas.{digits_are}
-use Rattle.cost_filters.proofs.text_buffer.digits_of.Goals as goal
+use Rattle.text_buffer.proofs.DigitsLemmas.{digits_are}
+use Rattle.text_buffer.proofs.buffer.digits_of.Goals as goal
 
 pub returns-in-Some : goal.returns-in-Some
 returns-in-Some c = sym (digits_are c.in-Some.power c.args.number (omega (arith, c.ranges.number.fits))

@@ -1,0 +1,6 @@
+//! Text that is put together from short pieces.
+#![tactic(auto)]
+
+mod buffer;
+
+pub use buffer::TextBuffer;
