@@ -1,4 +1,5 @@
-ghost use Rattle.std.specs.Prelude.{◌≡◌, ◌≢◌, ◌++◌, ◌↔◌, ℕ, List, drop, codes, IsTrue, IfOk, MatchOption};
+ghost use Rattle.std.specs.Prelude.{◌≡◌, ◌≢◌, ◌++◌, ◌↔◌, ℕ, List, drop, codes, IsTrue, IfOk, OnOk, MatchOption};
+ghost use Rattle.std.specs.Prelude.{string_bytes};
 ghost use Rattle.alto_addr.specs.Bits.{HasBits, width_of};
 ghost use Rattle.alto_addr.specs.declared.addr.Addr.{Addr as TheAddr};
 ghost use Rattle.alto_addr.specs.declared.prefix.Prefix.{Prefix as ThePrefix};
@@ -34,14 +35,21 @@ pub fn entity_reads_as_written()
 /// The length of the longest text that is written of a typed address.
 const LONGEST_TYPED: usize = 44;
 
-/// Writes a typed address (RFC 7285, section 10.4.1). Takes memory once.
+/// Writes a typed address as [`write_typed_addr`] does. Takes memory once.
 pub fn print_typed_addr(alloc: Global, addr: &Addr) -> Result<Name, AllocError>
     ensures { IfOk result (λ text. text ≡ typed_addr_text addr.now) }
 {
     let mut text = String::with_capacity(alloc, LONGEST_TYPED)?;
-    text.push_str(type_tag(addr))?;
-    write_addr(&mut text, addr)?;
+    write_typed_addr(&mut text, addr)?;
     Ok(Name::new(text))
+}
+
+/// Puts a typed address (RFC 7285, section 10.4.1) at the end.
+pub fn write_typed_addr(text: &mut String, addr: &Addr) -> Result<(), AllocError>
+    ensures { OnOk result (string_bytes text.new ≡ string_bytes text.old ++ typed_addr_text addr.now) }
+{
+    text.push_str(type_tag(addr))?;
+    write_addr(text, addr)
 }
 
 /// What is written of an address's type.

@@ -31,7 +31,7 @@ mod write;
 
 pub use entities::{
     entity_reads_as_written, print_entity, print_typed_addr, read_entity, read_typed_addr,
-    text_writes_one_entity,
+    text_writes_one_entity, write_typed_addr,
 };
 pub use entity::Entity;
 pub use ids::{find_resource, ids_are_unambiguous, print_resource, read_resource};

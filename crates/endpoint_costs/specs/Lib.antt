@@ -3,3 +3,4 @@ pub mod Ask
 pub mod Costs
 pub mod Laws
 pub mod Entries
+pub mod Texts

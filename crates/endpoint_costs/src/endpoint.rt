@@ -8,10 +8,9 @@ ghost use Rattle.alto_rows.specs.Entities.{WritesTypedAddr, typed_addr_text};
 ghost use Rattle.endpoint_costs.specs.Costs.{addrs_at, endpoint_of, endpoints_of};
 ghost use Rattle.endpoint_costs.specs.Entries.{IsWritten};
 
+use crate::text::{AddrText, AddrWriter};
 use alto_addr::Addr;
-use alto_rows::print_typed_addr;
 use cost_tables::PidText;
-use json_tree::Name;
 use pid_prefix::RangeTable;
 use std::alloc::{AllocError, Global};
 use std::cmp::Ordering;
@@ -20,7 +19,7 @@ use std::cmp::Ordering;
 #[derive(Drop)]
 pub(crate) struct Endpoint<'a> {
     /// What is written of the address behind its type.
-    pub(crate) text: Name,
+    pub(crate) text: AddrText,
     pub(crate) pid: PidText<'a>,
 }
 
@@ -30,7 +29,7 @@ impl<'a> PartialEq for Endpoint<'a> {
     ghost laws = { on_per (λ end. end.text) (partial_equiv_from_equiv nat_list_eq_equiv) };
 
     fn eq(&self, other: &Self) -> bool {
-        self.text == other.text
+        self.text.as_str() == other.text.as_str()
     }
 }
 
@@ -58,7 +57,7 @@ impl<'a> Ord for Endpoint<'a> {
     ghost matches_eq = { λ one other. texts_ties one.text other.text };
 
     fn cmp(&self, other: &Self) -> Ordering {
-        self.text.cmp(&other.text)
+        self.text.as_str().cmp(other.text.as_str())
     }
 }
 
@@ -91,9 +90,10 @@ fn endpoints_of<'a>(
     ensures are { IfOk result (λ ends. ends.items ≡ endpoints_of table.now addrs.now) }
     ensures written { IfOk result (λ ends. AllByRecursion (IsWritten table.now) ends.items) }
 {
+    let mut writer = AddrWriter::new(alloc)?;
     let mut ends = Vec::with_capacity(alloc, addrs.len())?;
     for addr in addrs {
-        if let Some(end) = endpoint_of(alloc, table, *addr)? {
+        if let Some(end) = endpoint_of(alloc, table, *addr, &mut writer)? {
             ends.push(end)?;
         }
     }
@@ -105,13 +105,14 @@ fn endpoint_of<'a>(
     alloc: Global,
     table: &'a RangeTable,
     addr: Addr,
+    writer: &mut AddrWriter,
 ) -> Result<Option<Endpoint<'a>>, AllocError>
     ensures is { IfOk result (λ end. end ≡ endpoint_of table.now addr) }
     ensures written { IfOk result (λ end. IfSome end (IsWritten table.now)) }
 {
     match table.pid_of(&addr) {
         Some(pid) => Ok(Some(Endpoint {
-            text: text_of(alloc, addr)?,
+            text: text_of(alloc, addr, writer)?,
             pid: PidText::of(pid),
         })),
         None => Ok(None),
@@ -119,9 +120,9 @@ fn endpoint_of<'a>(
 }
 
 /// What is written of an address behind its type, which reads as the address.
-fn text_of(alloc: Global, addr: Addr) -> Result<Name, AllocError>
+fn text_of(alloc: Global, addr: Addr, writer: &mut AddrWriter) -> Result<AddrText, AllocError>
     ensures is { IfOk result (λ text. text ≡ typed_addr_text addr) }
     ensures reads { IfOk result (λ text. WritesTypedAddr text addr) }
 {
-    print_typed_addr(alloc, &addr)
+    writer.text_of(alloc, addr)
 }

@@ -16,6 +16,7 @@ mod costs;
 mod endpoint;
 mod laws;
 mod ordered;
+mod text;
 
 pub use ask::{EndAsk, read_end_ask};
 pub use costs::endpoint_cost_text;

@@ -27,7 +27,7 @@ loop-at-preserved c names are =
     let more = groups_at multi names left (drop (l.at + 1) pairs) in
     let put : PutsIfAny src.text value l.later l.out c.in_ok-later.later c.push_group.new.out =
     subst (λ (name : Name). PutsIfAny name value l.later l.out c.in_ok-later.later c.push_group.new.out)
-    c.as_str.ensures.value
+    c.as_str.ensures
     (subst (λ (found : Found). PutsIfAny c.as_str.result.now (found_object multi names found) l.later l.out
     c.in_ok-later.later c.push_group.new.out) c.from_source-found.ensures
     (c.in_ok-later.ensures names are)) in

@@ -8,5 +8,5 @@ use Rattle.endpoint_costs.proofs.endpoint.text_of.Goals as goal
 pub returns-clause-reads : goal.returns-clause-reads
 returns-clause-reads c =
     let addr = c.args.addr in
-    IfOk-weaker c.print_typed_addr.result _ _ (λ text is. (addr_text addr, is, reads_as_written addr (search rules)))
-    c.print_typed_addr.ensures
+    IfOk-weaker c.text_of.result _ _ (λ text is. (addr_text addr, is, reads_as_written addr (search rules)))
+    c.text_of.ensures
