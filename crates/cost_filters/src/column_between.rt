@@ -15,7 +15,7 @@ use crate::columns::{Column, Scale, scaled};
 use crate::text::{push_comma, push_cost};
 use crate::types::CostType;
 use alto_names::NetName;
-use cost_tables::{CostTables, PidText};
+use cost_tables::{CostTables, CostsBetween, PidText};
 use std::alloc::{AllocError, Global};
 use std::marker::Model;
 use text_buffer::TextBuffer;
@@ -24,21 +24,20 @@ use text_buffer::TextBuffer;
 /// destination.
 #[derive(Drop)]
 pub(crate) struct ColumnBetween<'a> {
-    costs: Vec<Vec<Option<u64>>>,
+    costs: CostsBetween,
     /// How they are told; as they are where there is none.
     scale: Option<&'a Scale>,
 }
 
 impl<'a> Model for ColumnBetween<'a> {
-    ghost use Rattle.std.specs.Prelude.{map, option_map, unwrap_or};
+    ghost use Rattle.std.specs.Prelude.{option_map, unwrap_or};
     ghost use Rattle.cost_filters.specs.declared.columns.Scale.TheVariants as told_as;
     ghost use Rattle.cost_filters.specs.Between.{Costs, costs_as};
 
     ghost Value = { Costs };
 
     ghost view = { λ column.
-        costs_as (unwrap_or (option_map (λ of. of.now) column.scale) told_as.Numerical)
-        (map (λ row. row.items) column.costs.items) };
+        costs_as (unwrap_or (option_map (λ of. of.now) column.scale) told_as.Numerical) column.costs };
 }
 
 impl ColumnBetween<'_> {
@@ -72,13 +71,8 @@ impl ColumnBetween<'_> {
 }
 
 /// The costs from the source at a place, where this scale leaves them as they are.
-fn unscaled<'c>(
-    scale: &Scale,
-    costs: &'c [Vec<Option<u64>>],
-    src: usize,
-) -> Option<&'c [Option<u64>]>
-    ensures { IfSome result (λ row. row.now
-        ≡ unwrap_or (slice_get (costs_as scale.now (map (λ row. row.items) costs.now)) src) []) }
+fn unscaled<'c>(scale: &Scale, costs: &'c CostsBetween, src: usize) -> Option<&'c [Option<u64>]>
+    ensures { IfSome result (λ row. row.now ≡ unwrap_or (slice_get (costs_as scale.now costs.now) src) []) }
 {
     match scale {
         Scale::Numerical => row_at(costs, src),
@@ -87,18 +81,17 @@ fn unscaled<'c>(
 }
 
 /// The costs from the source at a place, as they are.
-fn row_at(costs: &[Vec<Option<u64>>], src: usize) -> Option<&[Option<u64>]>
-    ensures { IfSome result (λ row. row.now ≡ unwrap_or (slice_get (map (λ row. row.items) costs.now) src) []) }
+fn row_at(costs: &CostsBetween, src: usize) -> Option<&[Option<u64>]>
+    ensures { IfSome result (λ row. row.now ≡ unwrap_or (slice_get costs.now src) []) }
 {
-    let row = costs.get(src)?;
-    Some(row.as_slice())
+    costs.from_source(src)
 }
 
 /// The cost between a source and a destination at these places, as it is.
-fn cost_at(costs: &[Vec<Option<u64>>], src: usize, dst: usize) -> Option<u64>
-    ensures { result ≡ cost_between (map (λ row. row.items) costs.now) src dst }
+fn cost_at(costs: &CostsBetween, src: usize, dst: usize) -> Option<u64>
+    ensures { result ≡ cost_between costs.now src dst }
 {
-    *costs.get(src)?.get(dst)?
+    *costs.from_source(src)?.get(dst)?
 }
 
 /// Those of columns, as they are told. For each column one pass over the metrics, and one binary search for each

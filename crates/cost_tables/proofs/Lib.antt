@@ -7,3 +7,4 @@ pub mod TableLemmas
 pub mod ListLemmas
 pub mod TablesLemmas
 pub mod PidTextLemmas
+pub mod BetweenLemmas

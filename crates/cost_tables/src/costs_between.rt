@@ -1,18 +1,19 @@
 //! The costs in a metric between sources and destinations.
-ghost use Rattle.std.specs.Prelude.{◌≡◌, None, IfOk, OnOk, map, option_map};
+ghost use Rattle.std.specs.Prelude.{◌≡◌, ◌++◌, None, IfOk, OnOk, map, option_map};
 ghost use Rattle.std.specs.BTreeMap.{is_at};
 ghost use Rattle.std.specs.Map.{lookup};
 ghost use Rattle.alto_rows.specs.Order.{name_cmp};
 ghost use Rattle.cost_tables.specs.Lists.{ArePlacesFor, HaveNumbers, sources_in, table_of};
 ghost use Rattle.cost_tables.specs.Tables.{cost_told, costs_between};
 
+use crate::between::CostsBetween;
 use crate::from_source::FromSource;
 use crate::pid_text::PidText;
 use crate::places::Places;
 use crate::table::Table;
 use std::alloc::{AllocError, Global};
 
-/// The costs in a metric from sources to destinations, of a table, if the metric has one.
+/// The costs in a metric from sources to destinations, of a table, if the metric has one. Takes memory once for them.
 ///
 /// For each source one search among numbers that lie together. Where the destinations stand is found once for all
 /// sources in a row that have the same, and for each of them likewise.
@@ -21,51 +22,51 @@ pub(crate) fn costs_between(
     table: Option<&Table>,
     sources: &[PidText],
     destinations: &[PidText],
-) -> Result<Vec<Vec<Option<u64>>>, AllocError>
-    ensures { IfOk result (λ costs. map (λ row. row.items) costs.items
+) -> Result<CostsBetween, AllocError>
+    ensures { IfOk result (λ costs. costs
         ≡ costs_between (table_of (sources_in (option_map (λ table. table.now) table.entry)))
         sources.now destinations.now) }
 {
-    let mut all = Vec::with_capacity(alloc, sources.len())?;
+    let room = sources.len().saturating_mul(destinations.len());
+    let mut costs = Vec::with_capacity(alloc, room)?;
     let mut places = Places::new(alloc);
     for source in sources {
-        let costs = costs_from(alloc, table, source, destinations, &mut places)?;
-        all.push(costs)?;
+        push_costs_from(table, source, destinations, &mut places, &mut costs)?;
     }
-    Ok(all)
+    Ok(CostsBetween::new(costs, sources.len(), destinations.len()))
 }
 
-/// Those from one source, where the destinations stand at these places in the lists with their number.
-fn costs_from(
-    alloc: Global,
+/// Puts those from one source behind others, where the destinations stand at these places in the lists with their
+/// number.
+fn push_costs_from(
     table: Option<&Table>,
     source: &PidText,
     destinations: &[PidText],
     places: &mut Places,
-) -> Result<Vec<Option<u64>>, AllocError>
+    costs: &mut Vec<Option<u64>>,
+) -> Result<(), AllocError>
     requires { ArePlacesFor (sources_in (option_map (λ table. table.now) table)) destinations.now places.old }
-    ensures costs { IfOk result (λ costs. costs.items
-        ≡ map (cost_told (table_of (sources_in (option_map (λ table. table.now) table.entry))) source.now)
+    ensures costs { OnOk result (costs.new.items ≡ costs.old.items
+        ++ map (cost_told (table_of (sources_in (option_map (λ table. table.now) table.entry))) source.now)
         destinations.now) }
     ensures places { OnOk result
         (ArePlacesFor (sources_in (option_map (λ table. table.now) table.entry)) destinations.now places.new) }
 {
     let Some(from) = from_in(table, source) else {
-        return no_costs(alloc, destinations);
+        return push_no_costs(destinations, costs);
     };
     places.find(from, destinations)?;
-    from.costs().at(alloc, places.places())
+    from.costs().push_at(places.places(), costs)
 }
 
-/// No cost, for each of these destinations.
-fn no_costs(alloc: Global, destinations: &[PidText]) -> Result<Vec<Option<u64>>, AllocError>
-    ensures { IfOk result (λ costs. costs.items ≡ map (λ destination. None) destinations.now) }
+/// Puts no cost, for each of these destinations.
+fn push_no_costs(destinations: &[PidText], costs: &mut Vec<Option<u64>>) -> Result<(), AllocError>
+    ensures { OnOk result (costs.new.items ≡ costs.old.items ++ map (λ destination. None) destinations.now) }
 {
-    let mut costs = Vec::with_capacity(alloc, destinations.len())?;
     for _ in destinations {
         costs.push(None)?;
     }
-    Ok(costs)
+    Ok(())
 }
 
 /// The costs from a source in a table, if there are any. One binary search.

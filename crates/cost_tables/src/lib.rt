@@ -9,6 +9,7 @@
 //! ```
 #![tactic(auto)]
 
+mod between;
 mod costs_between;
 mod destinations;
 mod from_source;
@@ -20,5 +21,6 @@ mod sources;
 mod table;
 mod tables;
 
+pub use between::CostsBetween;
 pub use pid_text::PidText;
 pub use tables::CostTables;

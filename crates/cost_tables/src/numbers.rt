@@ -1,5 +1,5 @@
 //! Numbers in as few bytes as they fit.
-ghost use Rattle.std.specs.Prelude.{◌≡◌, IfOk, IfSome, length, map, nat_eq, slice_get};
+ghost use Rattle.std.specs.Prelude.{◌≡◌, ◌++◌, IfOk, IfSome, OnOk, length, map, nat_eq, slice_get};
 
 use std::alloc::{AllocError, Global};
 use std::marker::Model;
@@ -50,14 +50,18 @@ impl Numbers {
         }
     }
 
-    /// Those at places, `None` where there is none. No read waits for another, as it would where each were written to
-    /// an answer first.
-    pub(crate) fn at(&self, alloc: Global, places: &[usize]) -> Result<Vec<Option<u64>>, AllocError>
-        ensures { IfOk result (λ found. found.items ≡ map (slice_get self.now) places.now) }
+    /// Puts those at places behind others, `None` where there is none. No read waits for another, as it would where each
+    /// were written to an answer first.
+    pub(crate) fn push_at(
+        &self,
+        places: &[usize],
+        found: &mut Vec<Option<u64>>,
+    ) -> Result<(), AllocError>
+        ensures { OnOk result (found.new.items ≡ found.old.items ++ map (slice_get self.now) places.now) }
     {
         match &self.kept {
-            Kept::Narrow(numbers) => narrow_at(alloc, numbers, places),
-            Kept::Wide(numbers) => wide_at(alloc, numbers, places),
+            Kept::Narrow(numbers) => push_narrow(numbers, places, found),
+            Kept::Wide(numbers) => push_wide(numbers, places, found),
         }
     }
 }
@@ -76,18 +80,17 @@ fn narrowed(alloc: Global, numbers: &[u64]) -> Result<Option<Vec<u32>>, AllocErr
     Ok(Some(narrow))
 }
 
-fn narrow_at(
-    alloc: Global,
+fn push_narrow(
     numbers: &[u32],
     places: &[usize],
-) -> Result<Vec<Option<u64>>, AllocError>
-    ensures { IfOk result (λ found. found.items ≡ map (slice_get numbers.now) places.now) }
+    found: &mut Vec<Option<u64>>,
+) -> Result<(), AllocError>
+    ensures { OnOk result (found.new.items ≡ found.old.items ++ map (slice_get numbers.now) places.now) }
 {
-    let mut found = Vec::with_capacity(alloc, places.len())?;
     for place in places {
         found.push(narrow_number(numbers, *place))?;
     }
-    Ok(found)
+    Ok(())
 }
 
 fn narrow_number(numbers: &[u32], place: usize) -> Option<u64>
@@ -96,14 +99,17 @@ fn narrow_number(numbers: &[u32], place: usize) -> Option<u64>
     Some(u64::from(*numbers.get(place)?))
 }
 
-fn wide_at(alloc: Global, numbers: &[u64], places: &[usize]) -> Result<Vec<Option<u64>>, AllocError>
-    ensures { IfOk result (λ found. found.items ≡ map (slice_get numbers.now) places.now) }
+fn push_wide(
+    numbers: &[u64],
+    places: &[usize],
+    found: &mut Vec<Option<u64>>,
+) -> Result<(), AllocError>
+    ensures { OnOk result (found.new.items ≡ found.old.items ++ map (slice_get numbers.now) places.now) }
 {
-    let mut found = Vec::with_capacity(alloc, places.len())?;
     for place in places {
         found.push(wide_number(numbers, *place))?;
     }
-    Ok(found)
+    Ok(())
 }
 
 fn wide_number(numbers: &[u64], place: usize) -> Option<u64>

@@ -1,5 +1,5 @@
 //! The costs of all metrics.
-ghost use Rattle.std.specs.Prelude.{◌≡◌, IfOk, map, option_map};
+ghost use Rattle.std.specs.Prelude.{◌≡◌, IfOk, option_map};
 ghost use Rattle.std.specs.Arc.{arc_value};
 ghost use Rattle.std.specs.Map.{lookup};
 ghost use Rattle.alto_rows.specs.Good.{AreGood};
@@ -9,6 +9,7 @@ ghost use Rattle.alto_rows.specs.Versions.{resources_of};
 ghost use Rattle.cost_tables.specs.Lists.{table_of};
 ghost use Rattle.cost_tables.specs.Tables.{AreCostsOf, TellsCosts, costs_between, costs_of, is_of};
 
+use crate::between::CostsBetween;
 use crate::costs_between::costs_between;
 use crate::pid_text::PidText;
 use crate::table::Table;
@@ -109,8 +110,8 @@ impl CostTables {
         metric: &Metric,
         sources: &[PidText],
         destinations: &[PidText],
-    ) -> Result<Vec<Vec<Option<u64>>>, AllocError>
-        ensures { IfOk result (λ costs. map (λ row. row.items) costs.items
+    ) -> Result<CostsBetween, AllocError>
+        ensures { IfOk result (λ costs. costs
             ≡ costs_between (costs_of self.now net.now metric.now) sources.now destinations.now) }
     {
         match self.table(net, metric) {

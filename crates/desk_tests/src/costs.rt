@@ -94,7 +94,8 @@ fn compared(alloc: Global, desk: &MemDesk) -> Result<String, Fail> {
         let told = front
             .costs()
             .costs_between(alloc, &net, &metric, &texts, &texts)?;
-        for (costs, source) in told.iter().zip(&pids) {
+        for (at, source) in pids.iter().enumerate() {
+            let costs = told.from_source(at).unwrap_or(&[]);
             for (cost, destination) in costs.iter().zip(&pids) {
                 let (src, dst) = (source.clone()?, destination.clone()?);
                 let key = Key::Cost(net.clone()?, metric.clone()?, src, dst);
