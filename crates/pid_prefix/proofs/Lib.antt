@@ -8,3 +8,4 @@ pub mod TableLemmas
 pub mod FindLemmas
 pub mod RangesLemmas
 pub mod PidsLemmas
+pub mod IndexLemmas

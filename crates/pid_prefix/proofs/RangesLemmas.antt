@@ -10,6 +10,7 @@ use Rattle.std.proofs.lemmas.List.{append-nil, get_or-map, get_or_default, lengt
 use Rattle.std.proofs.lemmas.List.Elements.{All-filter, AllWithin-none, filter_more}
 use Rattle.std.proofs.lemmas.Slice.Zip.{firsts-zip, get_or-zip}
 use Rattle.pid_prefix.specs.declared.range.Range.{Range}
+use Rattle.pid_prefix.specs.Index.{EndsIn}
 use Rattle.pid_prefix.specs.Longest.{Row}
 use Rattle.pid_prefix.specs.PidRanges.{PidRange, last_pid, pid_at, row_pid, with_pid}
 use Rattle.pid_prefix.specs.Ranges.{AreRising, below, last_row, row_at}
@@ -50,13 +51,7 @@ firsts_rise value firsts pids same rising i j d order low =
     let rises = rising i j e order (omega (arith, length-zipped value firsts pids same, low)) in
     omega (arith, rises, at i (omega arith), at j low)
 
--- the part of the firsts from a place on, so long, is where those that are by the number end
-pub record EndsIn {A : Type 0} (value : A → ℕ) (firsts : List A) (number begun left : ℕ) : Type 0 where
-  pub within : begun + left ≤ length firsts
-  pub before : AllWithin (λ first. value first ≤ number) firsts 0 begun
-  pub behind : AllWithin (λ first. number < value first) firsts (begun + left) (length firsts)
-
--- and then half of it is, by what the number says of its middle
+-- half of the part where those that are by a number end is one again, by what the number says of its middle
 pub ends_in_half : {A : Type 0} (value : A → ℕ) (firsts : List A) (number begun left : ℕ) (middle : A) (t : Bool)
     → IsNonDecreasingBy value firsts → EndsIn value firsts number begun left → 0 < left
     → middle ≡ get_or firsts (begun + left / 2) middle → (IsTrue t ↔ (value middle ≤ number))

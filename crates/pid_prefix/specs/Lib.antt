@@ -5,5 +5,6 @@ pub mod PidRanges
 pub mod Bits
 pub mod Blocks
 pub mod Sweep
+pub mod Index
 pub mod Families
 pub mod Table

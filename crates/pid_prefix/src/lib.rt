@@ -12,6 +12,7 @@
 mod block;
 mod blocks;
 mod family;
+mod index;
 mod laws;
 mod number;
 mod pids;

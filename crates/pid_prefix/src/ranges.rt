@@ -1,9 +1,11 @@
 ghost use Rattle.std.specs.Prelude.{◌≡◌, ◌+◌, ◌-◌, ◌*◌, ◌^◌, ◌<◌, ◌≤◌, IfOk, length, map, option_copied};
 ghost use Rattle.std.specs.List.Sorted.{IsNonDecreasingBy, IsPartitionPoint};
 ghost use Rattle.pid_prefix.specs.Ranges.{below};
+ghost use Rattle.pid_prefix.specs.Index.{EndsIn};
 ghost use Rattle.pid_prefix.specs.PidRanges.{with_pid};
 ghost use Rattle.pid_prefix.specs.PidRanges as spec;
 
+use crate::index::Index;
 use crate::number::Number;
 use crate::pids::Pids;
 use crate::range::Range;
@@ -21,19 +23,23 @@ use std::sync::ledger::Ledger;
 #[derive(Drop)]
 pub(crate) struct Ranges<N: Number> {
     firsts: Vec<N>,
+    index: Index,
     pids: Pids,
 }
 
 impl<N: Number> Model for Ranges<N> {
     ghost use Rattle.std.specs.Prelude.{◌≡◌, List, length, map};
     ghost use Rattle.std.specs.List.{zip};
+    ghost use Rattle.std.specs.List.Sorted.{IsNonDecreasingBy};
+    ghost use Rattle.pid_prefix.specs.Index.{IsIndexOf};
     ghost use Rattle.pid_prefix.specs.PidRanges.{PidRange};
 
     ghost Value = { List PidRange };
 
     ghost view = { λ ranges. zip (map N.value ranges.firsts.items) ranges.pids };
 
-    ghost invariant = { λ ranges. length ranges.firsts.items ≡ length ranges.pids };
+    ghost invariant = { λ ranges. (length ranges.firsts.items ≡ length ranges.pids)
+        × (IsNonDecreasingBy N.value ranges.firsts.items → IsIndexOf N.value ranges.firsts.items ranges.index) };
 }
 
 impl<N: Number> Ranges<N> {
@@ -54,7 +60,12 @@ impl<N: Number> Ranges<N> {
             }
         }
         let pids = Pids::packed(alloc, &pids)?;
-        Ok(Ranges { firsts, pids })
+        let index = Index::of(alloc, &firsts)?;
+        Ok(Ranges {
+            firsts,
+            index,
+            pids,
+        })
     }
 
     /// The PID of the last range that begins at or before the number.
@@ -68,7 +79,8 @@ impl<N: Number> Ranges<N> {
         ensures counted { steps.old ≤ steps.new }
         ensures cost { 2 ^ (steps.new - steps.old) ≤ 2 * length self.now + 1 }
     {
-        let last = count_begun(&self.firsts, sought, steps).checked_sub(1)?;
+        let (begun, left) = self.index.part(self.firsts.len(), sought);
+        let last = count_begun(&self.firsts, begun, left, sought, steps).checked_sub(1)?;
         self.pids.at(last)
     }
 }
@@ -83,22 +95,25 @@ fn row_pid(rows: &[(Prefix, PidName)], place: Option<usize>) -> Result<Option<Pi
     }
 }
 
-/// How many of the rising numbers are at or before the one that is sought. The part where the last of them may be is
-/// halved at each step, whatever the comparison says.
+/// How many of the rising numbers are at or before the one that is sought, which end in a part of them. The part where
+/// the last of them may be is halved at each step, whatever the comparison says.
 fn count_begun<N: Number, L: Ledger>(
     firsts: &[N],
+    from: usize,
+    count: usize,
     sought: &Sought<N>,
     steps: &mut Steps<L>,
 ) -> usize
-    requires { IsNonDecreasingBy N.value firsts.now }
+    requires rise { IsNonDecreasingBy N.value firsts.now }
+    requires part { EndsIn N.value firsts.now sought.now from count }
     ensures within { result ≤ length firsts.now }
     ensures begun { IsPartitionPoint (λ first. N.value first ≤ sought.now) (λ first. sought.now < N.value first)
         firsts.now result }
     ensures counted { steps.old ≤ steps.new }
     ensures cost { 2 ^ (steps.new - steps.old) ≤ 2 * length firsts.now + 1 }
 {
-    let mut begun = 0;
-    let mut left = firsts.len();
+    let mut begun = from;
+    let mut left = count;
     while left > 0 {
         let half = left / 2;
         let is_begun = sought.is_at_or_past(&firsts[begun + half], steps);

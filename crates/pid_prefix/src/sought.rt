@@ -5,7 +5,7 @@ use crate::steps::Steps;
 use std::marker::Model;
 use std::sync::ledger::Ledger;
 
-/// A number that is looked up among ranges. Nothing reads it but its comparison, which is a step.
+/// A number that is looked up among ranges. Nothing compares it but its comparison, which is a step.
 #[derive(Drop)]
 pub(crate) struct Sought<N: Number> {
     number: N,
@@ -33,5 +33,12 @@ impl<N: Number> Sought<N> {
     {
         steps.tick();
         first.is_at_or_before(&self.number)
+    }
+
+    /// The number, for its leading bits.
+    pub(crate) fn number(&self) -> &N
+        ensures { N.value result.now ≡ self.now }
+    {
+        &self.number
     }
 }

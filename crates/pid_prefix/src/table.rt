@@ -17,9 +17,10 @@ use std::sync::ledger::{Blank, Ledger};
 
 /// Distinct prefixes with their PIDs, built for look-ups. A contract sees the list that it was built from.
 ///
-/// It keeps the list, 64 bytes for each prefix, and 2 ranges for a prefix at most: of 13 bytes each in IPv4, of which a
-/// search reads 4, and of 25 in IPv6, of which it reads 16. The other 9 are the range's PID or none, so that a look-up
-/// reads nothing between its search and the PID. Names are shared.
+/// It keeps the list, 64 bytes for each prefix, and 2 ranges for a prefix at most: of 14 bytes each in IPv4, of which a
+/// search reads 4, and of 26 in IPv6, of which it reads 16. Of the other 10, 9 are the range's PID or none, so that a
+/// look-up reads nothing between its search and the PID, and 1 is the index that says where the search begins. Names are
+/// shared.
 #[derive(Drop)]
 pub struct RangeTable {
     rows: Vec<(Prefix, PidName)>,
@@ -42,8 +43,8 @@ impl Model for RangeTable {
 }
 
 impl RangeTable {
-    /// The table of distinct prefixes, in any order. It costs p log p for p prefixes: for each family one sort, and one
-    /// pass.
+    /// The table of distinct prefixes, in any order. It costs p log p for p prefixes: for each family one sort, one
+    /// pass, and one search for every eighth range.
     pub fn build(alloc: Global, prefixes: &[(Prefix, PidName)]) -> Result<RangeTable, AllocError>
         requires { AreDistinct prefixes.now }
         ensures { IfOk result (λ table. table ≡ prefixes.now) }

@@ -1,17 +1,14 @@
 use Rattle.std.proofs.Common.{rules, ◌≡◌, ◌-◌, ◌/◌, arith, sym, subst, length}
 use Rattle.pid_prefix.proofs.RangeLemmas.{step_halves}
-use Rattle.pid_prefix.proofs.RangesLemmas.{EndsIn, ends_in_half}
+use Rattle.pid_prefix.specs.Index.{EndsIn}
+use Rattle.pid_prefix.proofs.RangesLemmas.{ends_in_half}
 use Rattle.pid_prefix.proofs.ranges.count_begun.Goals as goal
 
 pub loop-left-init : goal.loop-left-init
 loop-left-init g c = let none : c.args.steps.now - c.args.steps.now ≡ 0 = omega arith in record {
-  part = record {
-    within = omega arith;
-    before = λ k d low high. absurd (omega arith);
-    behind = λ k d low high. absurd (omega arith);
-  };
+  part = c.requires.part;
   counted = omega arith;
-  halved = rw none (omega arith);
+  halved = rw none (omega (arith, c.requires.part.within));
   cost = rw none (omega arith);
 }
 
@@ -34,7 +31,7 @@ loop-left-preserved g c =
     let halves = step_halves c.args.steps.now c.loop-left.steps left (left / 2) (length firsts)
     c.loop-left.invariant.counted c.loop-left.invariant.halved c.loop-left-test.true (omega arith) in
     let next = ends_in_half g.N.Number.value firsts c.args.sought.now c.loop-left.begun left
-    c.index-firsts-begun.result c.is_at_or_past-is_begun.result c.requires c.loop-left.invariant.part
+    c.index-firsts-begun.result c.is_at_or_past-is_begun.result c.requires.rise c.loop-left.invariant.part
     c.loop-left-test.true c.index-firsts-begun.is c.is_at_or_past-is_begun.ensures.answer in
     record {
       part = subst (λ begun. EndsIn g.N.Number.value firsts c.args.sought.now begun (left / 2))

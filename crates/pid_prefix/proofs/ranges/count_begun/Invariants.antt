@@ -1,5 +1,5 @@
 use Rattle.std.proofs.Common.{◌-◌, ◌*◌, ◌+◌, ◌^◌, ◌≤◌, length}
-use Rattle.pid_prefix.proofs.RangesLemmas.{EndsIn}
+use Rattle.pid_prefix.specs.Index.{EndsIn}
 use Rattle.pid_prefix.proofs.ranges.count_begun.Given as goal
 
 -- those by the number end in the part that is left, and each step halved it

@@ -1,0 +1,6 @@
+use Rattle.std.proofs.Common.{arith}
+use Rattle.pid_prefix.proofs.IndexLemmas.{none_left}
+use Rattle.pid_prefix.proofs.number.U32Number.leading.Goals as goal
+
+pub returns-in-None : goal.returns-in-None
+returns-in-None c = none_left c.args.self.now 32 c.args.shift (omega arith) (omega (arith, c.in-None.ensures))
