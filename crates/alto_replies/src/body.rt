@@ -8,6 +8,7 @@ use doc_pieces::{Parts, Pieces};
 use std::alloc::{AllocError, Global};
 use std::marker::Model;
 use std::sync::Arc;
+use text_buffer::TextBuffer;
 
 /// The body of a reply: bytes of its own, or the text of a map in the pieces that a version keeps. A contract sees the
 /// bytes.
@@ -65,12 +66,12 @@ impl Body {
     }
 
     /// Puts the bytes at the end. Costs their copying.
-    pub(crate) fn append_to(&self, bytes: &mut Vec<u8>) -> Result<(), AllocError>
-        ensures { OnOk result (bytes.new.items ≡ bytes.old.items ++ self.now) }
+    pub(crate) fn append_to(&self, text: &mut TextBuffer) -> Result<(), AllocError>
+        ensures { OnOk result (text.new ≡ text.old ++ self.now) }
     {
         match &self.source {
-            Source::Bytes(own) => bytes.extend_from_slice(own),
-            Source::Map(pieces) => pieces.append_to(bytes),
+            Source::Bytes(bytes) => text.push(bytes),
+            Source::Map(pieces) => push_parts(text, pieces),
         }
     }
 
@@ -89,6 +90,17 @@ impl Body {
             },
         }
     }
+}
+
+/// Puts the text of a map at the end, part by part.
+fn push_parts(text: &mut TextBuffer, pieces: &Pieces) -> Result<(), AllocError>
+    ensures { OnOk result (text.new ≡ text.old ++ text_of pieces.now) }
+{
+    let mut parts = pieces.parts();
+    while let Some(part) = parts.next() {
+        text.push(part)?;
+    }
+    Ok(())
 }
 
 /// The bytes of a body that is read part by part. A contract sees the parts that are left.

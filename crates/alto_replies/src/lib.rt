@@ -23,4 +23,4 @@ pub use replies::{
     status_alone, too_early, wrong_method,
 };
 pub use reply::Reply;
-pub use writing::{reply_bytes, reply_parts};
+pub use writing::{reply_bytes, write_reply};

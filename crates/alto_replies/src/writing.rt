@@ -17,44 +17,58 @@ const HEAD_BYTES: usize = 256;
 const LONGEST_COPIED: usize = 32768;
 
 /// The bytes of a reply (RFC 9112, sections 4 to 6), after which the connection closes or not. Copies the body once.
-/// Takes memory once, where neither the head nor the body is uncommonly long.
+/// Takes memory once, where the head isn't uncommonly long.
 #[tactic(auto, unfolding(crate::specs::Reply::bytes_of))]
 pub fn reply_bytes(alloc: Global, reply: &Reply, close: bool) -> Result<Vec<u8>, AllocError>
     requires { IsReply reply.now }
     ensures { IfOk result (λ bytes. bytes.items ≡ bytes_of reply.now close) }
 {
-    let mut bytes = head(alloc, reply, close)?;
-    reply.body.append_to(&mut bytes)?;
-    Ok(bytes)
+    let size = reply.body.len()?;
+    let mut text = TextBuffer::with_room(alloc, HEAD_BYTES.saturating_add(size))?;
+    write_head(&mut text, reply, size, close)?;
+    reply.body.append_to(&mut text)?;
+    Ok(text.into_bytes())
 }
 
-/// The bytes of a reply in two parts, to be written one after the other. A body that isn't long stands in the first, so
-/// that one write puts out the reply. A long one is the second, and isn't copied.
+/// Writes the bytes of a reply into a text, in place of what it had. A long body isn't copied: the text is the head
+/// then, and the body is given, to be written behind it. So a short reply is one text, which one write puts out, and
+/// takes no memory where the text has room for it.
 #[tactic(auto, unfolding(crate::specs::Reply::bytes_of))]
-pub fn reply_parts(alloc: Global, reply: Reply, close: bool) -> Result<(Vec<u8>, Body), AllocError>
+pub fn write_reply(
+    text: &mut TextBuffer,
+    reply: Reply,
+    close: bool,
+) -> Result<Option<Body>, AllocError>
     requires { IsReply reply }
-    ensures { IfOk result (λ parts. parts.0.items ++ parts.1 ≡ bytes_of reply close) }
+    ensures { IfOk result (λ rest. text.new ++ unwrap_or rest [] ≡ bytes_of reply close) }
 {
-    if reply.body.len()? <= LONGEST_COPIED {
-        let bytes = reply_bytes(alloc, &reply, close)?;
-        return Ok((bytes, Body::of_bytes(Vec::new(alloc))));
+    let size = reply.body.len()?;
+    text.clear();
+    if size > LONGEST_COPIED {
+        write_head(text, &reply, size, close)?;
+        return Ok(Some(reply.body));
     }
-    let head = head(alloc, &reply, close)?;
-    Ok((head, reply.body))
+    text.make_room(HEAD_BYTES + size)?;
+    write_head(text, &reply, size, close)?;
+    reply.body.append_to(text)?;
+    Ok(None)
 }
 
-/// The status line and the fields, with the empty line after them, with room for a body behind them.
-fn head(alloc: Global, reply: &Reply, close: bool) -> Result<Vec<u8>, AllocError>
-    requires { IsReply reply.now }
-    ensures { IfOk result (λ head. head.items ≡ head_of reply.now close) }
+/// Writes the status line and the fields, with the empty line after them.
+fn write_head(
+    text: &mut TextBuffer,
+    reply: &Reply,
+    size: usize,
+    close: bool,
+) -> Result<(), AllocError>
+    requires reply { IsReply reply.now }
+    requires size { size ≡ length reply.now.body }
+    ensures { OnOk result (text.new ≡ text.old ++ head_of reply.now close) }
 {
-    let length = reply.body.len()?;
-    let mut head = TextBuffer::with_room_before(alloc, HEAD_BYTES, length.min(LONGEST_COPIED))?;
-    write_first_lines(&mut head, reply.status, reply.content_type, length)?;
-    write_allow(&mut head, reply.allow)?;
-    write_close(&mut head, close)?;
-    head.push(b"\r\n")?;
-    Ok(head.into_bytes())
+    write_first_lines(text, reply.status, reply.content_type, size)?;
+    write_allow(text, reply.allow)?;
+    write_close(text, close)?;
+    text.push(b"\r\n")
 }
 
 /// Writes the status line, and the fields that each reply has. Most replies have the status 200.

@@ -1,4 +1,4 @@
-ghost use Rattle.std.specs.Prelude.{◌≡◌, ◌++◌, false, None, IfErr, IfOk, IfSome, OnErr, OnOk, List, ℕ};
+ghost use Rattle.std.specs.Prelude.{◌≡◌, ◌++◌, [], false, None, IfErr, IfOk, IfSome, OnErr, OnOk, List, ℕ, unwrap_or};
 ghost use Rattle.alto_answers.specs.Answers.{client_of};
 ghost use Rattle.alto_http.specs.Link.{count_after, extended, followed_by};
 ghost use Rattle.alto_http.specs.Splits.{Begins};
@@ -19,6 +19,7 @@ use alto_answers::{Client, Routes, Side};
 use alto_http::{Intake, Link, Request, WriteFault, read_request, write_all};
 use alto_replies::Body;
 use std::alloc::Global;
+use text_buffer::TextBuffer;
 
 /// How many requests a connection may bring.
 const MOST_REQUESTS: u32 = 1_000_000;
@@ -59,6 +60,7 @@ pub fn serve_conn<F: Office, L: Link, C: Clock>(
         return End::Memory;
     };
     let client = Client { routes, peer };
+    let mut text = TextBuffer::new(alloc);
     for _count in 0..MOST_REQUESTS {
         if let Some(end) = serve_next(
             alloc,
@@ -68,6 +70,7 @@ pub fn serve_conn<F: Office, L: Link, C: Clock>(
             link,
             clock,
             most_waits,
+            &mut text,
         ) {
             return end;
         }
@@ -75,7 +78,8 @@ pub fn serve_conn<F: Office, L: Link, C: Clock>(
     End::Limit
 }
 
-/// Reads the next request and answers it. Some end is the connection's.
+/// Reads the next request and answers it, by a text that has the room of the replies before. Some end is the
+/// connection's.
 fn serve_next<F: Office, L: Link, C: Clock>(
     alloc: Global,
     client: &Client,
@@ -84,6 +88,7 @@ fn serve_next<F: Office, L: Link, C: Clock>(
     link: &mut L,
     clock: &C,
     most_waits: u32,
+    text: &mut TextBuffer,
 ) -> Option<End>
     ensures on { result ≡ None → let setting = setting_of client.now (C.tells clock.now) F.alone most_waits in
         Becomes setting (GoesOn setting)
@@ -101,7 +106,9 @@ fn serve_next<F: Office, L: Link, C: Clock>(
     ensures clean { F.is_clean office.new → F.is_clean office.old }
 {
     match read_request(alloc, intake, link) {
-        Ok(Some(request)) => respond(alloc, client, office, link, clock, &request, most_waits),
+        Ok(Some(request)) => respond(
+            alloc, client, office, link, clock, &request, most_waits, text,
+        ),
         Ok(None) => Some(End::Closed),
         Err(fault) => Some(refuse(alloc, link, fault)),
     }
@@ -116,6 +123,7 @@ fn respond<F: Office, L: Link, C: Clock>(
     clock: &C,
     request: &Request,
     most_waits: u32,
+    text: &mut TextBuffer,
 ) -> Option<End>
     ensures stays { result ≡ None → request.now.close ≡ false }
     ensures on { result ≡ None → let setting = setting_of client.now (C.tells clock.now) F.alone most_waits in
@@ -135,13 +143,33 @@ fn respond<F: Office, L: Link, C: Clock>(
     ensures backed { F.is_backed office.old → F.is_backed office.new }
     ensures clean { F.is_clean office.new → F.is_clean office.old }
 {
-    let Ok((front, rest)) = answered(alloc, client, office, clock, request, most_waits) else {
+    let Ok(rest) = answered(alloc, client, office, clock, request, most_waits, text) else {
         return Some(out_of_memory(link));
     };
-    match write_parts(link, front, &rest) {
+    match write_text(link, text, rest) {
         Err(_) => Some(End::WriteFault),
         Ok(()) if request.close => Some(End::Closed),
         Ok(()) => None,
+    }
+}
+
+/// Puts out a text, and then a body where there is one. After an `Err` only a part of their bytes is out, from their
+/// beginning on. The text keeps its room where it stands alone.
+fn write_text<L: Link>(
+    link: &mut L,
+    text: &mut TextBuffer,
+    rest: Option<Body>,
+) -> Result<(), WriteFault>
+    ensures ok { OnOk result (L.out link.new ≡ extended (L.out link.old) (text.old ++ unwrap_or rest [])) }
+    ensures err { OnErr result
+        (EndsAtWriteFault (L.out link.old) (text.old ++ unwrap_or rest []) (L.out link.new)) }
+    ensures counted { L.failed_writes link.new ≡ count_after result (L.failed_writes link.old) }
+    ensures left { L.left link.new ≡ L.left link.old }
+    ensures failed_reads { L.failed_reads link.new ≡ L.failed_reads link.old }
+{
+    match rest {
+        Some(rest) => write_parts(link, text.take_bytes(), &rest),
+        None => write_all(link, text.bytes()),
     }
 }
 

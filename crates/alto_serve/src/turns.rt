@@ -1,5 +1,5 @@
 //! The turn of one request: looks at the office, waits for the next edge, and has an import accepted.
-ghost use Rattle.std.specs.Prelude.{◌≡◌, ◌≢◌, ◌++◌, ℕ, Err, IfOk, OnOk, OnErr, All};
+ghost use Rattle.std.specs.Prelude.{◌≡◌, ◌≢◌, ◌++◌, [], ℕ, Err, IfOk, OnOk, OnErr, All, unwrap_or};
 ghost use Rattle.alto_edits.specs.Edits.{IsEdit};
 ghost use Rattle.alto_book.specs.Book.{number_of};
 ghost use Rattle.alto_book.specs.declared.fault.EditFault.TheVariants as fault;
@@ -14,8 +14,9 @@ use crate::office::{Looks, Office};
 use alto_answers::{Answer, Client, answer};
 use alto_desk::{Command, EditFault, Receipt};
 use alto_http::Request;
-use alto_replies::{Body, Reply, edit_reply, reply_parts, too_early};
+use alto_replies::{Body, Reply, edit_reply, too_early, write_reply};
 use std::alloc::{AllocError, Global};
+use text_buffer::TextBuffer;
 
 /// What a request comes to at a look, and the number of the book that was looked at.
 #[derive(Drop)]
@@ -24,7 +25,8 @@ struct Look {
     number: u64,
 }
 
-/// The bytes of the reply to a request, in two parts.
+/// Writes the bytes of the reply to a request into a text, in place of what it had. A long body isn't copied: it is
+/// given, to be written behind the text.
 pub(crate) fn answered<F: Office, C: Clock>(
     alloc: Global,
     client: &Client,
@@ -32,9 +34,10 @@ pub(crate) fn answered<F: Office, C: Clock>(
     clock: &C,
     request: &Request,
     most_waits: u32,
-) -> Result<(Vec<u8>, Body), AllocError>
-    ensures ok { IfOk result (λ parts. Emits F.alone (RepliesWith
-        (setting_of client.now (C.tells clock.now) F.alone most_waits) request.now (parts.0.items ++ parts.1))
+    text: &mut TextBuffer,
+) -> Result<Option<Body>, AllocError>
+    ensures ok { IfOk result (λ rest. Emits F.alone (RepliesWith
+        (setting_of client.now (C.tells clock.now) F.alone most_waits) request.now (text.new ++ unwrap_or rest []))
         (F.known office.old) (F.known office.new)) }
     ensures err { OnErr result (Emits F.alone
         (IsCutOff (setting_of client.now (C.tells clock.now) F.alone most_waits) request.now)
@@ -44,7 +47,7 @@ pub(crate) fn answered<F: Office, C: Clock>(
     ensures clean { F.is_clean office.new → F.is_clean office.old }
 {
     let reply = take_turn(alloc, client, office, clock, request, most_waits)?;
-    reply_parts(alloc, reply, request.close)
+    write_reply(text, reply, request.close)
 }
 
 /// The reply to a request, which may change the book.

@@ -4,6 +4,7 @@ ghost use Rattle.std.specs.Prelude.{◌≡◌, ◌++◌, [], IfOk, OnOk, decimal
 use itoa::{Buffer, write_digits};
 use std::alloc::{AllocError, Global};
 use std::marker::Model;
+use std::mem;
 
 /// Text that is put together from short pieces. The room for it is filled beforehand, so that a piece costs one
 /// comparison and its copy, half of what it costs a `Vec`. A contract sees the bytes of the text.
@@ -40,20 +41,22 @@ impl TextBuffer {
     pub fn with_room(alloc: Global, room: usize) -> Result<TextBuffer, AllocError>
         ensures { IfOk result (λ text. text ≡ []) }
     {
-        TextBuffer::with_room_before(alloc, room, 0)
+        let mut text = TextBuffer::new(alloc);
+        text.make_room(room)?;
+        Ok(text)
     }
 
-    /// The same with memory for so many bytes more, which the vector of `into_bytes` has.
-    pub fn with_room_before(
-        alloc: Global,
-        room: usize,
-        more: usize,
-    ) -> Result<TextBuffer, AllocError>
-        ensures { IfOk result (λ text. text ≡ []) }
+    /// Makes room for so many bytes more. Takes memory, and fills it, only where there is no such room.
+    pub fn make_room(&mut self, room: usize) -> Result<(), AllocError>
+        ensures { self.new ≡ self.old }
     {
-        let mut bytes = Vec::with_capacity(alloc, room.saturating_add(more))?;
-        bytes.resize(room, 0)?;
-        Ok(TextBuffer { bytes, end: 0 })
+        if room <= self.bytes.len() - self.end {
+            return Ok(());
+        }
+        self.bytes.truncate(self.end);
+        self.bytes.reserve(room)?;
+        let room = self.bytes.capacity();
+        self.bytes.resize(room, 0)
     }
 
     /// Where it takes its memory.
@@ -75,6 +78,15 @@ impl TextBuffer {
         let TextBuffer { mut bytes, end } = self;
         bytes.truncate(end);
         bytes
+    }
+
+    /// The bytes alone, after which nothing is here, and no room.
+    pub fn take_bytes(&mut self) -> Vec<u8>
+        ensures taken { result.items ≡ self.old }
+        ensures emptied { self.new ≡ [] }
+    {
+        let alloc = self.allocator();
+        mem::replace(self, TextBuffer::new(alloc)).into_bytes()
     }
 
     /// Nothing, with the room of what was here.

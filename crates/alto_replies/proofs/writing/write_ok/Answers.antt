@@ -1,5 +1,5 @@
 -- The first lines of a reply with the status 200 are two texts with the media type and the length behind them.
-use Rattle.std.proofs.Common.{◌≡◌, ◌∙◌, ℕ, List, ◌++◌, codes, decimal, refl, ap, sym, append_assoc}
+use Rattle.std.proofs.Common.{◌≡◌, ◌∙◌, ℕ, List, ◌++◌, codes, decimal, refl, ap, append_assoc}
 use Rattle.std.proofs.lemmas.Result.{on_ok_weaker}
 use Rattle.std.specs.Fmt.{digits}
 use Rattle.httparse.specs.Ascii.{crlf_bytes}

@@ -15,14 +15,14 @@ returns-in-Err-clause-ended g c =
     λ rest behind begins. reply_breaks _ _ (state _ None _) _ rest behind begins _ cut.0 c.in-Ok.ensures.ok
     cut.2
 
-pub returns-in-Ok-write_parts-clause-ended : goal.returns-in-Ok-write_parts-clause-ended
-returns-in-Ok-write_parts-clause-ended g c =
+pub returns-in-Ok-write_text-clause-ended : goal.returns-in-Ok-write_text-clause-ended
+returns-in-Ok-write_text-clause-ended g c =
     let closes : c.args.request.now.close ≡ true =
     ap (λ (r : RequestData). r.close) (sym c.request.view_is) ∙ c.if-request.true in
     λ rest behind begins. reply_closes _ _ (state _ None _) _ rest behind begins _ closes c.in-Ok.ensures.ok
-    c.in-Ok-write_parts.ensures.ok
+    c.in-Ok-write_text.ensures.ok
 
-pub returns-clause-on : goal.returns-clause-on
-returns-clause-on g c =
+pub returns-in-Ok-2-clause-on : goal.returns-in-Ok-2-clause-on
+returns-in-Ok-2-clause-on g c =
     λ none. reply_out _ _ (state _ None _) (state _ None _) _ c.in-Ok.ensures.ok
-    c.in-Ok-write_parts.ensures.ok
+    c.in-Ok-write_text.ensures.ok

@@ -1,7 +1,6 @@
 -- What was gathered is out before the part is put out.
 use Rattle.std.proofs.Common.{◌≡◌, ◌∙◌, ap}
 use Rattle.alto_http.specs.Link.{extended}
-use Rattle.alto_serve.specs.Writing.{EndsAtWriteFault, IsOutTo}
 use Rattle.alto_serve.proofs.WritingLemmas.{both_out, on_err, second_breaks}
 use Rattle.alto_serve.proofs.serve.write_behind.Goals as goal
 

@@ -1,7 +1,6 @@
-use Rattle.std.proofs.Common.{◌≡◌, ◌∙◌, ◌++◌, [], sym, append-nil}
+use Rattle.std.proofs.Common.{◌≡◌, ◌∙◌, ◌++◌, sym, append-nil}
 use Rattle.std.proofs.lemmas.Result.{on_err_weaker}
 use Rattle.doc_pieces.specs.Parts.{whole}
-use Rattle.alto_serve.specs.Writing.{EndsAtWriteFault, IsOutTo}
 use Rattle.alto_serve.proofs.WritingLemmas.{on_err, part_breaks, part_out, rest_breaks}
 use Rattle.alto_serve.proofs.serve.write_parts.Goals as goal
 
