@@ -2,12 +2,14 @@ ghost use Rattle.std.specs.Prelude.{◌≡◌, ◌≤◌, ◌==◌, length, reve
 ghost use Rattle.std.specs.List.{position_or_len};
 ghost use Rattle.httparse.specs.Grammar.{skip_ows, trim_ows};
 
+use memchr::memchr;
+
 /// The place of the first such byte, or the length.
 pub(crate) fn place_of(text: &[u8], byte: u8) -> usize
     ensures place { result ≡ position_or_len (λ b. b == byte) text.now }
     ensures within { result ≤ length text.now }
 {
-    text.iter().position(|b| *b == byte).unwrap_or(text.len())
+    memchr(byte, text).unwrap_or(text.len())
 }
 
 /// The bytes without the spaces and tabs at both ends.

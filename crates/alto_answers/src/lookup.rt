@@ -10,7 +10,7 @@ ghost use Rattle.alto_answers.specs.Lookup.{LookupAnswer, ReadsAddr, pid_documen
 ghost use Rattle.alto_answers.specs.Target.{segment};
 
 use crate::outcome::Answer;
-use crate::target::segment;
+use crate::target::two_segments;
 use alto_addr::Addr;
 use alto_http::Verb;
 use alto_names::PidName;
@@ -39,8 +39,7 @@ pub(crate) fn lookup<R: RowStore>(
 {
     match verb {
         Verb::Get => {
-            let net = segment(alloc, path, 2)?;
-            let address = segment(alloc, path, 3)?;
+            let (net, address) = two_segments(alloc, path, 2)?;
             let table = front.table_named(&net);
             Ok(Answer::Reply(lookup_reply(alloc, table, read_addr(&address))?))
         }

@@ -1,9 +1,11 @@
-ghost use Rattle.std.specs.Prelude.{◌≡◌, ◌==◌, IfOk};
+ghost use Rattle.std.specs.Prelude.{◌≡◌, ◌+◌, ◌==◌, IfOk};
 ghost use Rattle.std.specs.Cow.{cow_slice_items};
 ghost use Rattle.std.specs.List.{before_first, list_any};
+ghost use Rattle.percent_encoding.specs.Percent.{percent_decode};
 ghost use Rattle.alto_answers.specs.Target.{question_mark, from_slash, without_host, path_of, raw_segment, segment};
 
 use crate::bytes::place_of;
+use memchr::memchr;
 use percent_encoding::percent_decode;
 use std::alloc::{AllocError, Global};
 use std::borrow::CowSlice;
@@ -24,18 +26,40 @@ pub(crate) fn segment(
 ) -> Result<CowSlice<'_, u8>, AllocError>
     ensures { IfOk result (λ bytes. cow_slice_items bytes ≡ segment path.now place) }
 {
-    let raw = raw_segment(path, place);
+    unescaped(alloc, raw_segment(path, place))
+}
+
+/// The same of the segment at this place and of the one behind it, in one pass over what stands before them.
+pub(crate) fn two_segments(
+    alloc: Global,
+    path: &[u8],
+    place: usize,
+) -> Result<(CowSlice<'_, u8>, CowSlice<'_, u8>), AllocError>
+    ensures first { IfOk result (λ both. cow_slice_items both.0 ≡ segment path.now place) }
+    ensures second { IfOk result (λ both. cow_slice_items both.1 ≡ segment path.now (place + 1)) }
+{
+    let (first, second) = two_raw_segments(path, place);
+    if !has_escape(path) {
+        return Ok((CowSlice::Borrowed(first), CowSlice::Borrowed(second)));
+    }
+    Ok((unescaped(alloc, first)?, unescaped(alloc, second)?))
+}
+
+/// A text with its escapes read.
+fn unescaped(alloc: Global, raw: &[u8]) -> Result<CowSlice<'_, u8>, AllocError>
+    ensures { IfOk result (λ bytes. cow_slice_items bytes ≡ percent_decode raw.now) }
+{
     if has_escape(raw) {
         return percent_decode(raw).into_cow(alloc);
     }
     Ok(CowSlice::Borrowed(raw))
 }
 
-/// Whether there is an escape. A segment is short, so a look at each byte is faster than `contains`.
-fn has_escape(segment: &[u8]) -> bool
-    ensures { result ≡ list_any (λ b. b == 37) segment.now }
+/// Whether there is an escape.
+fn has_escape(text: &[u8]) -> bool
+    ensures { result ≡ list_any (λ b. b == 37) text.now }
 {
-    segment.iter().any(|b| *b == b'%')
+    memchr(b'%', text).is_some()
 }
 
 fn before_query(target: &[u8]) -> &[u8]
@@ -63,4 +87,16 @@ fn raw_segment(path: &[u8], place: usize) -> &[u8]
     ensures { result.now ≡ raw_segment path.now place }
 {
     path.split(|b| *b == b'/').nth(place).unwrap_or(&[])
+}
+
+/// The segment at this place and the one behind it.
+fn two_raw_segments(path: &[u8], place: usize) -> (&[u8], &[u8])
+    ensures first { result.0.now ≡ raw_segment path.now place }
+    ensures second { result.1.now ≡ raw_segment path.now (place + 1) }
+{
+    let mut segments = path.split(|b| *b == b'/');
+    let Some(first) = segments.nth(place) else {
+        return (&[], &[]);
+    };
+    (first, segments.next().unwrap_or(&[]))
 }

@@ -1,22 +1,18 @@
-use Rattle.std.proofs.Common.{◌≡◌, ◌∙◌, ◌==◌, ◌≤◌, ℕ, Some, None, cond, unwrap_or, nat_lt, length, ap, arith, rules}
-use Rattle.std.proofs.Common.{tests}
+use Rattle.std.proofs.Common.{◌≡◌, ◌∙◌, ◌==◌, ℕ, List, Option, Some, None, unwrap_or, length, sym, arith}
 use Rattle.std.specs.List.{position_or_len}
-use Rattle.std.proofs.lemmas.Bool.Decides.{nat_tests}
-use Rattle.std.proofs.lemmas.Iterator.{YieldsList-from_slice}
-use Rattle.std.proofs.lemmas.Iterator.Search.{position_from_yields_List}
-use Rattle.std.proofs.lemmas.List.Sums.{prefix_len-le-length}
+use Rattle.std.proofs.lemmas.Bool.{false_from_ne_true}
+use Rattle.std.proofs.lemmas.List.Sums.{position_or_len_is}
+use Rattle.memchr.specs.Find.{IsFirstByte, is_byte}
 use Rattle.alto_answers.proofs.bytes.place_of.Goals as goal
 
-unwrap_or-first : (at most : ℕ) → at ≤ most → unwrap_or (cond (nat_lt at most) (Some at) None) most ≡ at
-unwrap_or-first at most within = grind (arith, nat_tests)
+first_place : (byte : ℕ) (text : List ℕ) (found : Option ℕ) → IsFirstByte (is_byte byte) text found
+    → unwrap_or found (length text) ≡ position_or_len (λ b. b == byte) text
+first_place byte text None nowhere =
+    sym (position_or_len_is _ text (length text) 0 (omega arith)
+    (λ k less. false_from_ne_true _ (nowhere k (omega arith) less)) (λ less. absurd (omega (arith, less))))
+first_place byte text (Some at) first =
+    sym (position_or_len_is _ text at 0 (omega (arith, first.0.high))
+    (λ k less. false_from_ne_true _ (first.0.before k (omega arith) less)) (λ less. first.1))
 
 pub returns-clause-place : goal.returns-clause-place
-returns-clause-place c =
-    let xs = c.args.text.now in
-    let found =
-    position_from_yields_List (λ b. b == c.args.byte) _ _ c.position.result c.position.ensures.ran
-    (YieldsList-from_slice xs c.iter.ensures.rest)
-    (λ x b q k. search (rules, tests)) in
-    c.unwrap_or.ensures
-    ∙ ap (λ o. unwrap_or o (length xs)) found
-    ∙ unwrap_or-first (position_or_len (λ b. b == c.args.byte) xs) (length xs) (prefix_len-le-length _ xs)
+returns-clause-place c = c.unwrap_or.ensures ∙ first_place c.args.byte c.args.text.now c.memchr.result c.memchr.ensures

@@ -11,9 +11,9 @@ returns-in_ok-lookup_reply-in-Get-clause-answer g c = λ book stands.
     rw c.in-Get.is
     (looked_up (rows_of book) (segment c.args.path.now 2) (segment c.args.path.now 3) _ c.read_addr.result _
     (sym (ap (λ n. prefixes_named (rows_of book) (named is_net_byte 24 n)) (c.deref.ensures.value
-    ∙ c.in_ok-net-in-Get.ensures))
+    ∙ c.in_ok-net-in-Get.ensures.first))
     ∙ table_of_text (λ table. table.now) c.table_named-table.result c.args.front.now book _ stands
     c.table_named-table.ensures.table c.table_named-table.ensures.name)
-    (subst (λ t. ReadsAddr t c.read_addr.result) (c.deref-in-Get.ensures.value ∙ c.in_ok-address-in-Get.ensures)
+    (subst (λ t. ReadsAddr t c.read_addr.result) (c.deref-in-Get.ensures.value ∙ c.in_ok-net-in-Get.ensures.second)
     c.read_addr.ensures)
     c.in_ok-lookup_reply-in-Get.ensures.reply)
