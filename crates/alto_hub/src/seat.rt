@@ -1,4 +1,7 @@
-ghost use Rattle.std.specs.Prelude.{◌≡◌};
+ghost use Rattle.std.specs.Prelude.{◌≡◌, false, IfOk, OnOk, OnErr};
+ghost use Rattle.std.specs.Arc.{arc_value};
+ghost use Rattle.alto_versions.specs.Front.{StandsFor};
+ghost use Rattle.alto_serve.specs.Events.{Emits, OneLook, PrefixOf};
 ghost use Rattle.alto_hub.specs.Seen.{known_at};
 
 use crate::bell::Bell;
@@ -7,9 +10,11 @@ use crate::mark::Naming;
 use crate::place::Place;
 use crate::submission::Submission;
 use crate::visitor::Visitor;
+use alto_answers::Client;
 use alto_desk::{Command, EditFault, Front, Receipt};
+use alto_http::Request;
 use alto_keeper::Keeper;
-use alto_serve::{Looks, Office};
+use alto_serve::{Look, Looks, Office};
 use row_chunks::Chunks;
 use std::alloc::{AllocError, Global};
 use std::marker::Model;
@@ -45,12 +50,19 @@ impl<'h, H, B, K, L, J: Naming> Seat<'h, H, B, K, L, J> {
             bell,
         }
     }
+
+    /// Looks, with no lock and no wait: gives the version that is published.
+    pub fn front(&mut self) -> Result<Arc<Front<Chunks>>, AllocError>
+        ensures stands { IfOk result (λ front. StandsFor (arc_value front) self.new.seen) }
+        ensures looked { OnOk result (Emits false (OneLook self.new.seen) self.old self.new) }
+        ensures lost { OnErr result (Emits false (PrefixOf (OneLook self.new.seen)) self.old self.new) }
+    {
+        self.visitor.look()
+    }
 }
 
 impl<'h, H, B, K, L, J: Naming> Looks for Seat<'h, H, B, K, L, J> {
     ghost use Rattle.std.specs.Prelude.{false};
-
-    type Rows = Chunks;
 
     ghost alone = { false };
 
@@ -58,8 +70,14 @@ impl<'h, H, B, K, L, J: Naming> Looks for Seat<'h, H, B, K, L, J> {
 
     ghost is_backed = { λ _. Unit {0} };
 
-    fn front(&mut self, _alloc: Global) -> Result<Arc<Front<Chunks>>, AllocError> {
-        self.visitor.look()
+    fn look(
+        &mut self,
+        alloc: Global,
+        client: &Client,
+        request: &Request,
+    ) -> Result<Look, AllocError> {
+        let front = self.front()?;
+        Look::at(&*front, alloc, client, request)
     }
 }
 

@@ -13,7 +13,8 @@ use Rattle.alto_book.proofs.AcceptanceLemmas.{accept_legal, refused_leaves}
 use Rattle.alto_desk.specs.Counts.{after_edit}
 use Rattle.alto_http.specs.Link.{one_more}
 use Rattle.alto_serve.proofs.EventLemmas.{grown_itself}
-use Rattle.alto_serve.specs.Events.{entered, submitted, Known, IsLook, Emits, IsSubmitted, PrefixOf, Submits}
+use Rattle.alto_serve.specs.Events.{entered, looked, submitted, Known, IsLook, Emits, IsSubmitted, OneLook, PrefixOf}
+use Rattle.alto_serve.specs.Events.{Submits}
 
 abbrev pub solo_known : Book → ℕ → ℕ → ℕ → Known
 solo_known book looks waits faults =
@@ -68,3 +69,9 @@ module _ (book later : Book) (import : Import) (moment looks waits faults after 
     (submitted import moment (Err fault.Keeper) book ∷ [], (Err fault.Keeper, (book, book, refl))),
   )
   solo_lost _ count stayed is = cc
+
+-- it has looked, and memory ran out
+pub solo_look_lost : (book : Book) (looks waits faults after : ℕ) → IsLegal book → after ≡ one_more looks
+    → Emits true (PrefixOf (OneLook book)) (solo_known book looks waits faults) (solo_known book after waits faults)
+solo_look_lost book looks waits faults after legal more =
+    (looked book ∷ [], (look_same book book legal refl, tt), rw more refl, ([], refl))

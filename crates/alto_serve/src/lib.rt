@@ -21,7 +21,7 @@ pub use alto_answers::{Answer, Client, Place, Routes, Side, answer, edge_number}
 pub use alto_replies::{Reply, reply_bytes};
 pub use clock::{Clock, FixedClock};
 pub use end::End;
-pub use office::{Looks, Office};
+pub use office::{Look, Looks, Office};
 pub use serve::serve_conn;
 pub use served::{Served, serve_link};
 pub use solo::Solo;

@@ -1,19 +1,53 @@
 ghost use Rattle.std.specs.Prelude.{◌≡◌, ◌≢◌, Bool, Err, IfOk, OnOk, OnErr, All};
-ghost use Rattle.std.specs.Arc.{arc_value};
 ghost use Rattle.alto_edits.specs.Edits.{IsEdit};
+ghost use Rattle.alto_book.specs.Book.{Book, number_of};
+ghost use Rattle.alto_book.specs.Legal.{IsLegal};
 ghost use Rattle.alto_versions.specs.Front.{StandsFor};
+ghost use Rattle.alto_answers.specs.Answers.{AnswersTo, BringsEdits, HasBytes};
+ghost use Rattle.alto_answers.specs.Graphs.{IsVersion};
 ghost use Rattle.alto_serve.specs.Events.{Emits, IsLook, IsSubmitted, Known, OneLook, OneWait, PrefixOf, Submits};
 
+use alto_answers::{Answer, Client, answer};
 use alto_desk::{Command, EditFault, Front, Receipt};
+use alto_http::Request;
 use alto_rows::RowStore;
 use std::alloc::{AllocError, Global};
-use std::sync::Arc;
+
+/// What a request comes to at a look, and the number of the book that was looked at.
+#[derive(Drop)]
+pub struct Look {
+    /// What the request comes to.
+    pub answer: Answer,
+    /// How many batches the book has.
+    pub number: u64,
+}
+
+impl Look {
+    /// What a client's request comes to at a version.
+    pub fn at<R: RowStore>(
+        front: &Front<R>,
+        alloc: Global,
+        client: &Client,
+        request: &Request,
+    ) -> Result<Look, AllocError>
+        requires { IsVersion front.now }
+        ensures answer { IfOk result (λ look. (book : Book) → IsLegal book → StandsFor front.now book
+            → AnswersTo request.now book client.now look.answer) }
+        ensures number { IfOk result (λ look. (book : Book) → StandsFor front.now book
+            → look.number ≡ number_of book) }
+        ensures edits { IfOk result (λ look. BringsEdits look.answer) }
+        ensures replies { IfOk result (λ look. HasBytes look.answer) }
+    {
+        let answer = answer(alloc, client, request, front)?;
+        Ok(Look {
+            answer,
+            number: front.n,
+        })
+    }
+}
 
 /// What a connection looks at: versions, each of a legal book that extends those seen before.
 pub trait Looks {
-    /// How the versions keep their rows.
-    type Rows: RowStore;
-
     /// Whether nobody else has imports accepted into the book.
     ghost alone: { Bool };
 
@@ -27,9 +61,18 @@ pub trait Looks {
     /// does.
     ghost is_clean: { Self → Type 0 } = { λ _. Unit {0} };
 
-    /// Looks: gives the version of a book that is seen from then on. Out of memory, it has looked or not.
-    fn front(&mut self, alloc: Global) -> Result<Arc<Front<Self::Rows>>, AllocError>
-        ensures stands { IfOk result (λ front. StandsFor (arc_value front) (known self.new).seen) }
+    /// Looks: gives what a client's request comes to at the version of a book that is seen from then on. Out of memory,
+    /// it has looked or not.
+    fn look(
+        &mut self,
+        alloc: Global,
+        client: &Client,
+        request: &Request,
+    ) -> Result<Look, AllocError>
+        ensures answer { IfOk result (λ look. AnswersTo request.now (known self.new).seen client.now look.answer) }
+        ensures number { IfOk result (λ look. look.number ≡ number_of (known self.new).seen) }
+        ensures edits { IfOk result (λ look. BringsEdits look.answer) }
+        ensures replies { IfOk result (λ look. HasBytes look.answer) }
         ensures looks { OnOk result (Emits alone (OneLook (known self.new).seen) (known self.old) (known self.new)) }
         ensures lost { OnErr result
             (Emits alone (PrefixOf (OneLook (known self.new).seen)) (known self.old) (known self.new)) }

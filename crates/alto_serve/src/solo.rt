@@ -1,11 +1,12 @@
 ghost use Rattle.std.specs.Prelude.{◌≡◌};
 
-use crate::office::{Looks, Office};
-use alto_desk::{Command, Desk, EditFault, Front, Receipt, Tally};
+use crate::office::{Look, Looks, Office};
+use alto_answers::Client;
+use alto_desk::{Command, Desk, EditFault, Receipt, Tally};
+use alto_http::Request;
 use alto_keeper::Keeper;
 use alto_rows::RowStore;
 use std::alloc::{AllocError, Global};
-use std::sync::Arc;
 
 /// The office over one desk, which nobody else edits. Its wait ends at once.
 #[derive(Drop)]
@@ -50,8 +51,6 @@ impl<K: Keeper + Drop, R: RowStore> Looks for Solo<K, R> {
     ghost use Rattle.std.specs.Prelude.{true, []};
     ghost use Rattle.alto_desk.specs.Records.{Backs};
 
-    type Rows = R;
-
     ghost alone = { true };
 
     ghost known = { λ solo. record {
@@ -67,10 +66,14 @@ impl<K: Keeper + Drop, R: RowStore> Looks for Solo<K, R> {
 
     ghost is_clean = { λ solo. K.is_clean solo.desk.keeper };
 
-    fn front(&mut self, _alloc: Global) -> Result<Arc<Front<R>>, AllocError> {
-        let front = Arc::try_clone(self.desk.front())?;
+    fn look(
+        &mut self,
+        alloc: Global,
+        client: &Client,
+        request: &Request,
+    ) -> Result<Look, AllocError> {
         self.looks = self.looks.saturating_add(1);
-        Ok(front)
+        Look::at(self.desk.front(), alloc, client, request)
     }
 }
 

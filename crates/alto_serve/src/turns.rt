@@ -1,5 +1,5 @@
 //! The turn of one request: looks at the office, waits for the next edge, and has an import accepted.
-ghost use Rattle.std.specs.Prelude.{◌≡◌, ◌≢◌, ◌++◌, [], ℕ, Err, IfOk, OnOk, OnErr, All, unwrap_or};
+ghost use Rattle.std.specs.Prelude.{◌≡◌, ◌≢◌, ◌++◌, [], ℕ, Err, IfOk, OnErr, All, unwrap_or};
 ghost use Rattle.alto_edits.specs.Edits.{IsEdit};
 ghost use Rattle.alto_book.specs.Book.{number_of};
 ghost use Rattle.alto_book.specs.declared.fault.EditFault.TheVariants as fault;
@@ -11,19 +11,12 @@ ghost use Rattle.alto_serve.specs.Turns.{IsCutOff, IsMoment, TakesTurn, setting_
 
 use crate::clock::Clock;
 use crate::office::{Looks, Office};
-use alto_answers::{Answer, Client, answer};
+use alto_answers::{Answer, Client};
 use alto_desk::{Command, EditFault, Receipt};
 use alto_http::Request;
 use alto_replies::{Body, Reply, edit_reply, too_early, write_reply};
 use std::alloc::{AllocError, Global};
 use text_buffer::TextBuffer;
-
-/// What a request comes to at a look, and the number of the book that was looked at.
-#[derive(Drop)]
-struct Look {
-    answer: Answer,
-    number: u64,
-}
 
 /// Writes the bytes of the reply to a request into a text, in place of what it had. A long body isn't copied: it is
 /// given, to be written behind the text.
@@ -93,13 +86,13 @@ fn settled<F: Office>(
     ensures clean { F.is_clean office.new → F.is_clean office.old }
 {
     for _wait in 0..most_waits {
-        let look = look_at(alloc, client, office, request)?;
+        let look = office.look(alloc, client, request)?;
         if !is_pending(&look.answer) {
             return Ok(look.answer);
         }
         office.wait(look.number);
     }
-    let look = look_at(alloc, client, office, request)?;
+    let look = office.look(alloc, client, request)?;
     Ok(look.answer)
 }
 
@@ -108,32 +101,6 @@ fn is_pending(answer: &Answer) -> bool
     ensures { result ≡ is_pending answer.now }
 {
     matches!(answer, Answer::Hold { .. })
-}
-
-/// What a request comes to at the next look.
-fn look_at<F: Office>(
-    alloc: Global,
-    client: &Client,
-    office: &mut F,
-    request: &Request,
-) -> Result<Look, AllocError>
-    ensures answer { IfOk result (λ look. AnswersTo request.now (F.known office.new).seen client.now look.answer) }
-    ensures number { IfOk result (λ look. look.number ≡ number_of (F.known office.new).seen) }
-    ensures edits { IfOk result (λ look. BringsEdits look.answer) }
-    ensures replies { IfOk result (λ look. HasBytes look.answer) }
-    ensures ok { OnOk result (Emits F.alone (OneLook (F.known office.new).seen)
-        (F.known office.old) (F.known office.new)) }
-    ensures err { OnErr result (Emits F.alone (PrefixOf (OneLook (F.known office.new).seen))
-        (F.known office.old) (F.known office.new)) }
-    ensures backed { F.is_backed office.old → F.is_backed office.new }
-    ensures clean { F.is_clean office.new → F.is_clean office.old }
-{
-    let front = office.front(alloc)?;
-    let answer = answer(alloc, client, request, &*front)?;
-    Ok(Look {
-        answer,
-        number: front.n,
-    })
 }
 
 /// The reply to an answer that isn't waited for: an import is accepted or refused, and the next edge comes too early.

@@ -13,7 +13,7 @@ use alto_doors::{Door, DoorFault, Doors};
 use alto_http::Link;
 use alto_hub::{Bell, Hub, Naming, NewHistory, Place, Seat};
 use alto_keeper::{Keeper, Vault};
-use alto_serve::{Clock, Looks, Office};
+use alto_serve::{Clock, Office};
 use row_chunks::Chunks;
 use std::alloc::{AllocError, Global};
 use std::marker::Brand;
@@ -192,7 +192,7 @@ fn workers_of<'h, 'r, J: Naming, H: Wait, K: Keeper + Drop, E: Door + Drop, B: B
 /// Runs all workers at once, each to the end of its door, and closes the doors.
 fn run_workers<
     H: Threads + Wait + Sync,
-    F: Office + Looks<Rows: Send + Sync> + Drop + Send,
+    F: Office + Drop + Send,
     D: Doors<Link: Send, Door: Send>,
     C: Clock + Sync,
 >(
@@ -216,7 +216,7 @@ fn run_workers<
 /// Runs all workers at once, each in a thread of its own to the end of its door.
 fn serve_all<
     H: Threads + Wait + Sync,
-    F: Office + Looks<Rows: Send + Sync> + Drop + Send,
+    F: Office + Drop + Send,
     E: Door<Link: Send> + Drop + Send,
     C: Clock + Sync,
 >(rt: &H, alloc: Global, workers: &mut [Worker<F, E>], clock: &C, turns: u32)

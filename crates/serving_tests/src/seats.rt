@@ -6,7 +6,7 @@ use alto_edits::Edit;
 use alto_hub::{Hub, IdleBell, Naming, NewHistory, Place, Seat};
 use alto_keeper::{Keeper, MemKeeper};
 use alto_names::{Epoch, ImportId, NetName};
-use alto_serve::{Looks, Office};
+use alto_serve::Office;
 use alto_versions::Front;
 use row_chunks::Chunks;
 use std::alloc::{AllocError, Global};
@@ -40,7 +40,7 @@ fn seen_from_another<J: Naming + Send + Sync, R: Threads + Wait + Abort + Sync>(
     let (imported, seen) = join(
         rt,
         || import(rt, alloc, &hub, first),
-        || wait_for_it(rt, alloc, &hub, second),
+        || wait_for_it(rt, &hub, second),
     );
     assert_eq!(rt; imported, Some(1));
     assert_eq!(rt; seen, Some(1));
@@ -73,22 +73,20 @@ fn import<R: Wait, W: Wait + Drop, J: Naming>(
 /// needs neither.
 fn look<H, B, K, L, J: Naming>(
     seat: &mut Seat<'_, H, B, K, L, J>,
-    alloc: Global,
 ) -> Result<Arc<Front<Chunks>>, AllocError> {
-    seat.front(alloc)
+    seat.front()
 }
 
 /// Looks from a seat until a batch is published, and gives its number.
 fn wait_for_it<R: Wait, W: Wait + Drop, J: Naming>(
     rt: &R,
-    alloc: Global,
     hub: &Hub<W, MemKeeper, J>,
     place: Place<J>,
 ) -> Option<u64> {
     let bell = IdleBell;
     let mut seat = Seat::new(rt, hub, place, &bell);
     for _ in rt.forever() {
-        let front = look(&mut seat, alloc).ok()?;
+        let front = look(&mut seat).ok()?;
         if front.n > 0 {
             return Some(front.n);
         }
