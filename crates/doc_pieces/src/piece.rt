@@ -1,20 +1,19 @@
 ghost use Rattle.std.specs.Prelude.{◌≡◌, ◌++◌, codes, true, IfOk};
-ghost use Rattle.std.specs.Arc.{arc_value};
 ghost use Rattle.alto_maps.specs.Shape.{stands};
 ghost use Rattle.doc_pieces.specs.Pieces.{piece_of};
 
 use crate::grouped::Grouped;
 use json::Writer;
 use json_tree::Name;
+use shared_list::Named;
 use std::alloc::{AllocError, Global};
 use std::marker::Model;
-use std::sync::Arc;
 
 /// A group's name, and its text as a member. A contract sees both. The text is kept behind a comma, so that most groups
 /// are put behind another in one piece.
 #[derive(Drop)]
 pub(crate) struct Piece {
-    pub(crate) name: Name,
+    name: Name,
     behind_comma: Vec<u8>,
 }
 
@@ -45,14 +44,22 @@ impl Piece {
     }
 }
 
+impl Named for Piece {
+    ghost name = { λ piece. piece.0 };
+
+    fn name(&self) -> &[u8] {
+        self.name.as_str().as_bytes()
+    }
+}
+
 /// The piece of a group that stands, written anew, with no spare room.
 pub(crate) fn written<M: Grouped>(
     alloc: Global,
     source: &M,
     name: Name,
-) -> Result<Arc<Piece>, AllocError>
+) -> Result<Piece, AllocError>
     requires { stands (M.face source.now) name ≡ true }
-    ensures { IfOk result (λ piece. arc_value piece ≡ piece_of (M.face source.now) name) }
+    ensures { IfOk result (λ piece. piece ≡ piece_of (M.face source.now) name) }
 {
     let mut text = Vec::new(alloc);
     text.push(b',')?;
@@ -60,5 +67,5 @@ pub(crate) fn written<M: Grouped>(
     source.write_group(alloc, &name, &mut out)?;
     let mut behind_comma = out.into_inner();
     behind_comma.shrink_to_fit();
-    Ok(Arc::new(alloc, Piece { name, behind_comma })?)
+    Ok(Piece { name, behind_comma })
 }

@@ -1,8 +1,6 @@
-ghost use Rattle.std.specs.Prelude.{◌≡◌, ◌+◌, ◌++◌, true, All, IfOk, OnOk, codes, length, map};
-ghost use Rattle.std.specs.Arc.{arc_value};
-ghost use Rattle.std.specs.List.{flat_map};
+ghost use Rattle.std.specs.Prelude.{◌≡◌, ◌+◌, ◌++◌, IfOk, OnOk, length};
 ghost use Rattle.alto_maps.specs.Differ.{DifferAt};
-ghost use Rattle.alto_maps.specs.Shape.{Face, stands};
+ghost use Rattle.alto_maps.specs.Shape.{Face};
 ghost use Rattle.doc_pieces.specs.Parts.{whole};
 ghost use Rattle.doc_pieces.specs.Pieces.{joined, pieces_of, text_of};
 ghost use Rattle.doc_pieces.specs.Pieces as spec;
@@ -10,33 +8,30 @@ ghost use Rattle.doc_pieces.specs.Pieces as spec;
 use crate::frame::{beginning, ending, meta_text};
 use crate::grouped::Grouped;
 use crate::parts::Parts;
-use crate::piece::{Piece, written};
-use crate::renewing::renewed_groups;
+use crate::piece::Piece;
+use crate::renewing::{renewed_groups, with_written};
 use alto_maps::{Place, Walked};
-use json_tree::Name;
+use shared_list::SharedList;
 use std::alloc::{AllocError, Global};
 use std::marker::Model;
-use std::sync::Arc;
 
 /// The text of a map's document in pieces, of which other documents may share those of its groups. A contract sees the
 /// bytes.
 #[derive(Drop)]
 pub struct Pieces {
     beginning: Vec<u8>,
-    groups: Vec<Arc<Piece>>,
+    groups: SharedList<Piece>,
     ending: Vec<u8>,
 }
 
 impl Model for Pieces {
-    ghost use Rattle.std.specs.Prelude.{map};
-    ghost use Rattle.std.specs.Arc.{arc_value};
     ghost use Rattle.doc_pieces.specs.Pieces.{Pieces};
 
     ghost Value = { Pieces };
 
     ghost view = { λ pieces. record {
       beginning = pieces.beginning.items;
-      groups = map arc_value pieces.groups.items;
+      groups = pieces.groups;
       ending = pieces.ending.items;
     } };
 }
@@ -53,8 +48,8 @@ impl Pieces {
 
     /// The pieces of a map that differs at these places from the one that these are the pieces of.
     ///
-    /// Costs one pass over the places and one over the groups, and the writing of the meta and of each group that a
-    /// place touches. All other groups are shared.
+    /// Costs one pass over the places and one over the runs of groups, and the writing of the meta and of each group
+    /// that a place touches. All other groups are shared, by whole runs where no place touches one of them.
     pub fn renewed<M: Grouped>(
         &self,
         alloc: Global,
@@ -111,10 +106,9 @@ impl Pieces {
 fn framed<M: Walked>(
     alloc: Global,
     source: &M,
-    groups: Vec<Arc<Piece>>,
+    groups: SharedList<Piece>,
 ) -> Result<Pieces, AllocError>
-    ensures { IfOk result (λ pieces. pieces
-        ≡ spec.framed M.shape (M.face source.now).meta (map arc_value groups.items)) }
+    ensures { IfOk result (λ pieces. pieces ≡ spec.framed M.shape (M.face source.now).meta groups) }
 {
     let meta = meta_text(alloc, source)?;
     Ok(Pieces {
@@ -125,39 +119,23 @@ fn framed<M: Walked>(
 }
 
 /// The groups of a map, written anew.
-fn written_groups<M: Grouped>(alloc: Global, source: &M) -> Result<Vec<Arc<Piece>>, AllocError>
-    ensures { IfOk result (λ groups. map arc_value groups.items ≡ spec.groups_of (M.face source.now)) }
+fn written_groups<M: Grouped>(alloc: Global, source: &M) -> Result<SharedList<Piece>, AllocError>
+    ensures { IfOk result (λ groups. groups ≡ spec.groups_of (M.face source.now)) }
 {
     let names = source.group_names(alloc)?;
-    written_each(alloc, source, &names)
-}
-
-/// Groups of these names, which stand.
-fn written_each<M: Grouped>(
-    alloc: Global,
-    source: &M,
-    names: &[Name],
-) -> Result<Vec<Arc<Piece>>, AllocError>
-    requires { All (λ name. stands (M.face source.now) name ≡ true) names.now }
-    ensures { IfOk result (λ groups. map arc_value groups.items
-        ≡ map (spec.piece_of (M.face source.now)) names.now) }
-{
-    let mut groups = Vec::with_capacity(alloc, names.len())?;
-    for name in names {
-        groups.push(written(alloc, source, name.clone()?)?)?;
-    }
-    Ok(groups)
+    with_written(alloc, &SharedList::new(alloc), source, &names)
 }
 
 /// The length of the texts of groups with a comma between each two.
-fn joined_len(groups: &[Arc<Piece>]) -> Result<usize, AllocError>
-    ensures { IfOk result (λ len. len ≡ length (joined (map arc_value groups.now))) }
+fn joined_len(groups: &SharedList<Piece>) -> Result<usize, AllocError>
+    ensures { IfOk result (λ len. len ≡ length (joined groups.now)) }
 {
-    let Some((first, rest)) = groups.split_first() else {
+    let mut pieces = groups.items();
+    let Some(first) = pieces.next() else {
         return Ok(0);
     };
     let mut len = first.text().len();
-    for piece in rest {
+    while let Some(piece) = pieces.next() {
         len = sum(len, piece.behind_comma().len())?;
     }
     Ok(len)
@@ -171,22 +149,15 @@ fn sum(a: usize, b: usize) -> Result<usize, AllocError>
 }
 
 /// Puts the texts of groups at the end, with a comma between each two.
-fn join(groups: &[Arc<Piece>], text: &mut Vec<u8>) -> Result<(), AllocError>
-    ensures { OnOk result (text.new.items ≡ text.old.items ++ joined (map arc_value groups.now)) }
+fn join(groups: &SharedList<Piece>, text: &mut Vec<u8>) -> Result<(), AllocError>
+    ensures { OnOk result (text.new.items ≡ text.old.items ++ joined groups.now) }
 {
-    let Some((first, rest)) = groups.split_first() else {
+    let mut pieces = groups.items();
+    let Some(first) = pieces.next() else {
         return Ok(());
     };
     text.extend_from_slice(first.text())?;
-    append(rest, text)
-}
-
-/// Puts the texts of groups at the end, each behind a comma.
-fn append(groups: &[Arc<Piece>], text: &mut Vec<u8>) -> Result<(), AllocError>
-    ensures { OnOk result (text.new.items ≡ text.old.items
-        ++ flat_map (λ piece. codes "," ++ piece.1) (map arc_value groups.now)) }
-{
-    for piece in groups {
+    while let Some(piece) = pieces.next() {
         text.extend_from_slice(piece.behind_comma())?;
     }
     Ok(())

@@ -1,98 +1,62 @@
-//! The groups of a map from those of a map that differs at some places.
-ghost use Rattle.std.specs.Prelude.{◌≡◌, ◌++◌, IfOk, OnOk, map};
-ghost use Rattle.std.specs.Arc.{arc_value};
+//! The groups of a map from those of another.
+ghost use Rattle.std.specs.Prelude.{◌≡◌, IfOk, map};
+ghost use Rattle.std.specs.List.Sorted.{IsStrictlySortedBy};
 ghost use Rattle.alto_maps.specs.Places.{touched_groups};
 ghost use Rattle.doc_pieces.specs.Renewed as spec;
+ghost use Rattle.shared_list.specs.Order.{InOrder, name_cmp};
 
 use crate::grouped::Grouped;
 use crate::piece::{Piece, written};
 use crate::touched::touched_names;
 use alto_maps::Place;
 use json_tree::Name;
+use shared_list::{Change, SharedList};
 use std::alloc::{AllocError, Global};
-use std::cmp::Ordering;
-use std::sync::Arc;
 
 /// The groups of a map: those that places touch are written anew, where they stand, and all others are shared.
 pub(crate) fn renewed_groups<M: Grouped>(
     alloc: Global,
-    groups: &[Arc<Piece>],
+    groups: &SharedList<Piece>,
     source: &M,
     places: &[Place],
-) -> Result<Vec<Arc<Piece>>, AllocError>
-    ensures { IfOk result (λ renewed. map arc_value renewed.items
-        ≡ spec.renewed (M.face source.now) (touched_groups places.now) (map arc_value groups.now)) }
+) -> Result<SharedList<Piece>, AllocError>
+    ensures groups { IfOk result (λ renewed. renewed
+        ≡ spec.renewed (M.face source.now) (touched_groups places.now) groups.now) }
+    ensures order { IfOk result (λ renewed. InOrder spec.name_of renewed) }
 {
     let touched = touched_names(alloc, places)?;
-    renewed_at(alloc, groups, source, &touched)
+    with_written(alloc, groups, source, &touched)
 }
 
-/// The groups of a map: those of these names, which stand in byte order, are written anew.
-fn renewed_at<M: Grouped>(
+/// Groups, of which those of these names are written anew, where they stand.
+pub(crate) fn with_written<M: Grouped>(
     alloc: Global,
-    groups: &[Arc<Piece>],
+    groups: &SharedList<Piece>,
     source: &M,
     names: &[Name],
-) -> Result<Vec<Arc<Piece>>, AllocError>
-    ensures { IfOk result (λ renewed. map arc_value renewed.items
-        ≡ spec.renewed (M.face source.now) names.now (map arc_value groups.now)) }
+) -> Result<SharedList<Piece>, AllocError>
+    requires { IsStrictlySortedBy name_cmp names.now }
+    ensures groups { IfOk result (λ renewed. renewed ≡ spec.renewed (M.face source.now) names.now groups.now) }
+    ensures order { IfOk result (λ renewed. InOrder spec.name_of renewed) }
 {
-    let mut renewed = Vec::with_capacity(alloc, groups.len())?;
-    let mut left = groups;
+    let mut changes = Vec::with_capacity(alloc, names.len())?;
     for name in names {
-        left = share_before(name, left, &mut renewed)?;
-        put_standing(alloc, source, name, &mut renewed)?;
+        changes.push(change_of(alloc, source, name)?)?;
     }
-    share(left, &mut renewed)?;
-    Ok(renewed)
+    groups.changed(alloc, changes)
 }
 
-/// Shares the groups that stand before a name, and gives those behind it.
-fn share_before<'a>(
-    name: &Name,
-    groups: &'a [Arc<Piece>],
-    shared: &mut Vec<Arc<Piece>>,
-) -> Result<&'a [Arc<Piece>], AllocError>
-    ensures shared { OnOk result (map arc_value shared.new.items
-        ≡ map arc_value shared.old.items ++ spec.before name.now (map arc_value groups.now)) }
-    ensures left { IfOk result (λ left. map arc_value left.now
-        ≡ spec.behind name.now (map arc_value groups.now)) }
-{
-    let mut left = groups;
-    while let Some((group, rest)) = left.split_first() {
-        match group.name.cmp(name) {
-            Ordering::Less => shared.push(Arc::try_clone(group)?)?,
-            Ordering::Equal => return Ok(rest),
-            Ordering::Greater => return Ok(left),
-        }
-        left = rest;
-    }
-    Ok(left)
-}
-
-/// Writes a group, where it stands.
-fn put_standing<M: Grouped>(
+/// A name with its group, written anew, if it stands.
+fn change_of<'a, M: Grouped>(
     alloc: Global,
     source: &M,
-    name: &Name,
-    groups: &mut Vec<Arc<Piece>>,
-) -> Result<(), AllocError>
-    ensures { OnOk result (map arc_value groups.new.items
-        ≡ map arc_value groups.old.items ++ spec.standing (M.face source.now) name.now) }
+    name: &'a Name,
+) -> Result<Change<'a, Piece>, AllocError>
+    ensures { IfOk result (λ change. change ≡ spec.change_of (M.face source.now) name.now) }
 {
+    let mut piece = None;
     if source.stands(alloc, name)? {
-        groups.push(written(alloc, source, name.clone()?)?)?;
+        piece = Some(written(alloc, source, name.clone()?)?);
     }
-    Ok(())
-}
-
-/// Shares groups.
-fn share(groups: &[Arc<Piece>], shared: &mut Vec<Arc<Piece>>) -> Result<(), AllocError>
-    ensures { OnOk result (map arc_value shared.new.items
-        ≡ map arc_value shared.old.items ++ map arc_value groups.now) }
-{
-    for group in groups {
-        shared.push(Arc::try_clone(group)?)?;
-    }
-    Ok(())
+    Ok(Change::new(name.as_str().as_bytes(), piece))
 }

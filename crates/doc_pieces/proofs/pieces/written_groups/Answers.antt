@@ -1,11 +1,21 @@
-use Rattle.std.proofs.Common.{◌≡◌, ◌∙◌, sym, subst, true}
-use Rattle.std.specs.Prelude.{All}
-use Rattle.alto_maps.specs.Shape.{stands}
-use Rattle.doc_pieces.proofs.NameLemmas.{groups_stand}
+use Rattle.std.proofs.Common.{◌≡◌, ◌∙◌, ap₂, sym, subst}
+use Rattle.std.proofs.lemmas.Result.{IfOk-weaker}
+use Rattle.std.specs.List.Sorted.{IsStrictlySortedBy}
+use Rattle.alto_maps.proofs.SetLemmas.{rise-set_of}
+use Rattle.alto_maps.specs.Places.{set_of}
+use Rattle.doc_pieces.specs.Renewed.{renewed}
+use Rattle.doc_pieces.proofs.RenewedLemmas.{groups_written}
 use Rattle.doc_pieces.proofs.pieces.written_groups.Goals as goal
+use Rattle.shared_list.specs.Order.{name_cmp}
 
-pub written_each-requires : goal.written_each-requires
-written_each-requires g c =
+pub with_written-requires : goal.with_written-requires
+with_written-requires g c =
+    subst (IsStrictlySortedBy name_cmp) (sym (c.deref.ensures.value ∙ c.in_ok-names.ensures))
+    (rise-set_of (g.M.MapSource.face c.args.source.now).groups)
+
+pub returns : goal.returns
+returns g c =
     let face = g.M.MapSource.face c.args.source.now in
-    subst (All (λ name. stands face name ≡ true)) (sym (c.deref.ensures.value ∙ c.in_ok-names.ensures))
-    (groups_stand face)
+    let names : c.deref.result.now ≡ set_of face.groups = c.deref.ensures.value ∙ c.in_ok-names.ensures in
+    IfOk-weaker c.with_written-2.result _ _
+    (λ groups is. is ∙ (ap₂ (renewed face) names c.new.ensures ∙ groups_written face)) c.with_written-2.ensures.groups

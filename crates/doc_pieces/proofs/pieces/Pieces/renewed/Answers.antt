@@ -1,6 +1,5 @@
-use Rattle.std.proofs.Common.{ap, ◌∙◌, map}
+use Rattle.std.proofs.Common.{ap, ◌∙◌}
 use Rattle.std.proofs.lemmas.Result.{IfOk-weaker}
-use Rattle.std.specs.Arc.{arc_value}
 use Rattle.doc_pieces.specs.Pieces.{Pieces}
 use Rattle.doc_pieces.proofs.RenewedLemmas.{pieces_renewed}
 use Rattle.doc_pieces.proofs.pieces.Pieces.renewed.Goals as goal
@@ -12,6 +11,6 @@ returns g c =
     is
     ∙ pieces_renewed g.M.MapSource.shape earlier (g.M.MapSource.face c.args.source.now) c.args.places.now
     c.args.self.now _ _ had differ
-    (ap (map arc_value) c.deref.ensures.value ∙ ap (λ (pieces : Pieces). pieces.groups) c.self.view_is)
-    c.in_ok-groups.ensures)
+    (ap (λ (pieces : Pieces). pieces.groups) c.self.view_is)
+    c.in_ok-groups.ensures.groups)
     c.framed.ensures
