@@ -1,5 +1,5 @@
 -- Costs that stand one after another, by source.
-use Rattle.std.proofs.Common.{◌≡◌, ◌∙◌, ◌+◌, ◌*◌, ◌-◌, ◌<◌, ◌≤◌, ◌⊎◌, inl, inr, ◌++◌, ◌∷◌, [], List}
+use Rattle.std.proofs.Common.{◌≡◌, ◌∙◌, ◌+◌, ◌*◌, ◌-◌, ◌<◌, ◌≤◌, ◌⊎◌, inl, inr, ◌∷◌, [], List}
 use Rattle.std.proofs.Common.{None, Option, Some, ℕ, ap, arith}
 use Rattle.std.proofs.Common.{drop, length, map, option_map, refl, slice_get, suc, sym, take, zero}
 use Rattle.std.proofs.Math.Nat.{mul-le-mul_right}

@@ -1,4 +1,3 @@
-pub mod SearchLemmas
 pub mod FromLemmas
 pub mod PairLemmas
 pub mod SourceLemmas

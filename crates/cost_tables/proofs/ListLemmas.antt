@@ -1,23 +1,25 @@
 -- Sources with the lists of their destinations: what they tell as a table, how numbers go on, and where places are
 -- right.
 use Rattle.std.proofs.Common.{◌≡◌, ◌≢◌, ℕ, zero, suc, ◌<◌, refl, ap, sym, subst, ◌∙◌, arith, append_assoc, inl, inr}
+use Rattle.std.proofs.Common.{Bor}
 use Rattle.std.proofs.Math.Dec.{eqb}
 use Rattle.std.proofs.lemmas.Bool.{eq-eqb}
 use Rattle.std.proofs.lemmas.Bool.Decides.{eqb_tells}
-use Rattle.std.proofs.lemmas.List.{map-append}
+use Rattle.std.proofs.lemmas.List.{append-nil}
 use Rattle.std.proofs.lemmas.Map.Made.{lookup-map_values}
-use Rattle.std.specs.Prelude.{Bool, true, false, cond, ◌⊎◌, List, [], ◌∷◌, ◌++◌, ◌+◌, Option, None, Some, map}
+use Rattle.std.specs.Prelude.{Bool, true, false, cond, ◌⊎◌, List, [], ◌∷◌, ◌++◌, ◌+◌, Option, None, Some, IfSome, map}
 use Rattle.std.specs.Prelude.{option_and_then, option_map, slice_get}
 use Rattle.std.specs.BTreeMap.{is_at}
 use Rattle.std.specs.List.{AllByRecursion}
 use Rattle.std.specs.Map.{keys_of, lookup}
-use Rattle.std.specs.declared.cmp.Ordering.{Ordering}
-use Rattle.std.specs.declared.cmp.Ordering.TheVariants.{Less, Equal, Greater}
+use Rattle.std.specs.Option.{option_to_list}
 use Rattle.alto_rows.specs.Order.{name_cmp}
-use Rattle.cost_tables.specs.Lists.{AreNumbered, ArePlaces, ArePlacesIn, HaveNumbers, IsSharedOrNew, Listed, Numbered}
-use Rattle.cost_tables.specs.Lists.{Sources, table_of}
-use Rattle.cost_tables.specs.Renewed.{before, behind, renewed, standing}
-use Rattle.cost_tables.specs.Tables.{Costs, Name, Table, cost_to, cost_told}
+use Rattle.cost_tables.specs.Lists.{AreNumbered, ArePlaces, ArePlacesIn, HasNumber, HaveNumbers, IsSharedOrNew}
+use Rattle.cost_tables.specs.Lists.{Listed, Numbered, Sources, table_of}
+use Rattle.cost_tables.specs.Renewed.{Changes, name_of, put}
+use Rattle.cost_tables.specs.Tables.{Costs, Name, cost_to, cost_told}
+use Rattle.shared_list.proofs.ChangedLemmas.{all_changed}
+use Rattle.shared_list.specs.Changed.{Change, changed}
 
 -- ---- sources told as a table
 
@@ -30,26 +32,6 @@ pub lookup-table_of : (test : Name → Bool) (sources : Sources)
     → lookup test (table_of sources) ≡ option_map (λ from. from.costs) (lookup test sources)
 lookup-table_of test sources = lookup-map_values (λ (from : Listed). from.costs) test sources
 
-before-table_of : (name : Name) (sources : Sources) → table_of (before name sources) ≡ before name (table_of sources)
-before-table_of name [] = refl
-before-table_of name (source ∷ sources) = by (name_cmp source.0 name) refl (before-table_of name sources)
-  where
-    by : (o : Ordering) → name_cmp source.0 name ≡ o → table_of (before name sources) ≡ before name (table_of sources)
-        → table_of (before name (source ∷ sources)) ≡ before name (table_of (source ∷ sources))
-    by Less e rest = rw e (ap (λ (more : Table). (source.0, source.1.costs) ∷ more) rest)
-    by Equal e rest = rw e refl
-    by Greater e rest = rw e refl
-
-behind-table_of : (name : Name) (sources : Sources) → table_of (behind name sources) ≡ behind name (table_of sources)
-behind-table_of name [] = refl
-behind-table_of name (source ∷ sources) = by (name_cmp source.0 name) refl (behind-table_of name sources)
-  where
-    by : (o : Ordering) → name_cmp source.0 name ≡ o → table_of (behind name sources) ≡ behind name (table_of sources)
-        → table_of (behind name (source ∷ sources)) ≡ behind name (table_of (source ∷ sources))
-    by Less e rest = rw e rest
-    by Equal e rest = rw e refl
-    by Greater e rest = rw e refl
-
 -- ---- what holds of each source
 
 module _ (P : Name × Listed → Type 0) where
@@ -57,47 +39,13 @@ module _ (P : Name × Listed → Type 0) where
   all_append [] ys a b = b
   all_append (x ∷ xs) ys a b = (a.0, all_append xs ys a.1 b)
 
-  all_left : (xs ys : Sources) → AllByRecursion P (xs ++ ys) → AllByRecursion P xs
+  pub all_left : (xs ys : Sources) → AllByRecursion P (xs ++ ys) → AllByRecursion P xs
   all_left [] ys h = tt
   all_left (x ∷ xs) ys h = (h.0, all_left xs ys h.1)
 
   all_right : (xs ys : Sources) → AllByRecursion P (xs ++ ys) → AllByRecursion P ys
   all_right [] ys h = h
   all_right (x ∷ xs) ys h = all_right xs ys h.1
-
-  all_before : (name : Name) (xs : Sources) → AllByRecursion P xs → AllByRecursion P (before name xs)
-  all_before name [] h = tt
-  all_before name (x ∷ xs) h = by (name_cmp x.0 name) refl (all_before name xs h.1)
-    where
-      by : (o : Ordering) → name_cmp x.0 name ≡ o → AllByRecursion P (before name xs)
-          → AllByRecursion P (before name (x ∷ xs))
-      by Less e rest = rw e (h.0, rest)
-      by Equal e rest = rw e tt
-      by Greater e rest = rw e tt
-
-  all_behind : (name : Name) (xs : Sources) → AllByRecursion P xs → AllByRecursion P (behind name xs)
-  all_behind name [] h = tt
-  all_behind name (x ∷ xs) h = by (name_cmp x.0 name) refl (all_behind name xs h.1)
-    where
-      by : (o : Ordering) → name_cmp x.0 name ≡ o → AllByRecursion P (behind name xs)
-          → AllByRecursion P (behind name (x ∷ xs))
-      by Less e rest = rw e rest
-      by Equal e rest = rw e h.1
-      by Greater e rest = rw e h
-
-  -- the sources at a name go, and those before it to the front
-  all_shared : (name : Name) (xs ys : Sources) → AllByRecursion P (xs ++ ys)
-      → AllByRecursion P ((xs ++ before name ys) ++ behind name ys)
-  all_shared name xs ys h =
-      all_append (xs ++ before name ys) (behind name ys)
-      (all_append xs (before name ys) (all_left xs ys h) (all_before name ys (all_right xs ys h)))
-      (all_behind name ys (all_right xs ys h))
-
-  -- one source comes between
-  all_put : (xs ys : Sources) (x : Name × Listed) → AllByRecursion P (xs ++ ys) → P x
-      → AllByRecursion P ((xs ++ x ∷ []) ++ ys)
-  all_put xs ys x h p =
-      all_append (xs ++ x ∷ []) ys (all_append xs (x ∷ []) (all_left xs ys h) (p, tt)) (all_right xs ys h)
 
   all_at : (xs : Sources) (place : ℕ) (x : Name × Listed) → AllByRecursion P xs → slice_get xs place ≡ Some x → P x
   all_at [] place x h there = cc
@@ -110,7 +58,7 @@ all_weaker P Q give [] h = tt
 all_weaker P Q give (x ∷ xs) h = (give x h.0, all_weaker P Q give xs h.1)
 
 -- what holds of each source's costs and list holds of those that are found
-all_found : (Q : Listed → Type 0) (test : Name → Bool) (xs : Sources) (x : Listed)
+pub all_found : (Q : Listed → Type 0) (test : Name → Bool) (xs : Sources) (x : Listed)
     → AllByRecursion (λ source. Q source.1) xs → lookup test xs ≡ Some x → Q x
 all_found Q test [] x h found = cc
 all_found Q test (first ∷ xs) x h found = by (test first.0) refl found (λ later. all_found Q test xs x h.1 later)
@@ -123,95 +71,143 @@ all_found Q test (first ∷ xs) x h found = by (test first.0) refl found (λ lat
 -- ---- numbers
 
 pub none_numbered : (next : ℕ) → AreNumbered next []
-none_numbered next = record { numbers = record { names_of = λ number. []; same = tt }; below = tt }
+none_numbered next = record { names_of = λ number. []; each = tt }
 
--- the sources at a name go
-pub numbers_shared : (next : ℕ) (name : Name) (xs ys : Sources) → AreNumbered next (xs ++ ys)
-    → AreNumbered next ((xs ++ before name ys) ++ behind name ys)
-numbers_shared next name xs ys numbered =
-    record {
-      numbers = record {
-        names_of = numbered.numbers.names_of;
-        same = all_shared (λ source. source.1.list.names ≡ numbered.numbers.names_of source.1.list.number) name xs ys
-            numbered.numbers.same;
-      };
-      below = all_shared (λ source. source.1.list.number < next) name xs ys numbered.below;
-    }
+pub have_numbers : (next : ℕ) (xs : Sources) → AreNumbered next xs → HaveNumbers xs
+have_numbers next xs numbered = record {
+  names_of = numbered.names_of;
+  same = all_weaker (λ source. HasNumber numbered.names_of next source.1)
+      (λ source. source.1.list.names ≡ numbered.names_of source.1.list.number) (λ x has. has.0) xs numbered.each;
+}
 
--- a number is passed over
-pub numbers_next : (number : ℕ) (xs : Sources) → AreNumbered number xs → AreNumbered (number + 1) xs
+later_number : (names_of : ℕ → List Name) (number : ℕ) (xs : Sources)
+    → AllByRecursion (λ source. HasNumber names_of number source.1) xs
+    → AllByRecursion (λ source. HasNumber names_of (number + 1) source.1) xs
+later_number names_of number xs each =
+    all_weaker (λ source. HasNumber names_of number source.1) (λ source. HasNumber names_of (number + 1) source.1)
+    (λ x has. (has.0, let less : x.1.list.number < number = has.1 in omega arith)) xs each
+
+-- no source is put, and the number is passed over
+pub numbers_next : (number : ℕ) (xs : Sources) → AreNumbered number xs → AreNumbered (number + 1) (xs ++ [])
 numbers_next number xs numbered =
     record {
-      numbers = numbered.numbers;
-      below = all_weaker (λ source. source.1.list.number < number) (λ source. source.1.list.number < number + 1)
-          (λ x less. omega arith) xs numbered.below;
+      names_of = numbered.names_of;
+      each = all_append (λ source. HasNumber numbered.names_of (number + 1) source.1)
+          xs [] (later_number numbered.names_of number xs numbered.each) tt;
     }
 
--- a source is put between, with a list that another one has, or a new one under the number
-pub numbers_put : (number : ℕ) (xs ys : Sources) (x : Name × Listed) (place : ℕ)
-    → IsSharedOrNew (option_map (λ source. source.1.list) (slice_get (xs ++ ys) place)) number x.1.list
-    → AreNumbered number (xs ++ ys)
-    → AreNumbered (number + 1) ((xs ++ x ∷ []) ++ ys)
-numbers_put number xs ys x place (inl shared) numbered = by (slice_get (xs ++ ys) place) refl shared
-  where
-    by : (found : Option (Name × Listed)) → slice_get (xs ++ ys) place ≡ found
-        → option_map (λ source. source.1.list) found ≡ Some x.1.list
-        → AreNumbered (number + 1) ((xs ++ x ∷ []) ++ ys)
-    by None there shared = cc
-    by (Some like) there shared =
-        let is : like.1.list ≡ x.1.list = cc in
-        let names_of = numbered.numbers.names_of in
-        let same : x.1.list.names ≡ names_of x.1.list.number =
-        subst (λ (list : Numbered). list.names ≡ names_of list.number) is
-        (all_at (λ source. source.1.list.names ≡ names_of source.1.list.number) (xs ++ ys) place like
-        numbered.numbers.same there) in
-        let below : x.1.list.number < number =
-        subst (λ (list : Numbered). list.number < number) is
-        (all_at (λ source. source.1.list.number < number) (xs ++ ys) place like numbered.below there) in
-        numbers_next number ((xs ++ x ∷ []) ++ ys)
-        (record {
-          numbers = record {
-            names_of = names_of;
-            same = all_put (λ source. source.1.list.names ≡ names_of source.1.list.number) xs ys x
-                numbered.numbers.same same;
-          };
-          below = all_put (λ source. source.1.list.number < number) xs ys x numbered.below below;
-        })
-numbers_put number xs ys x place (inr own) numbered =
+-- a source is put, with a list that another one has, or a new one under the number
+pub numbers_put : (number : ℕ) (xs : Sources) (x : Name × Listed) (like : Option (Bor (Name × Listed)))
+    → ((names_of : ℕ → List Name) (next : ℕ) → AllByRecursion (λ source. HasNumber names_of next source.1) xs
+    → IfSome like (λ from. HasNumber names_of next from.now.1))
+    → IsSharedOrNew (option_map (λ from. from.now.1.list) like) number x.1.list → AreNumbered number xs
+    → AreNumbered (number + 1) (xs ++ x ∷ [])
+numbers_put number xs x None holds (inl shared) numbered = cc
+numbers_put number xs x (Some like) holds (inl shared) numbered =
+    let is : like.now.1.list ≡ x.1.list = cc in
+    let has : HasNumber numbered.names_of number like.now.1 = holds numbered.names_of number numbered.each in
+    let own : HasNumber numbered.names_of (number + 1) x.1 = (
+      subst (λ (list : Numbered). list.names ≡ numbered.names_of list.number) is has.0,
+      subst (λ (list : Numbered). list.number < number + 1) is
+          (let less : like.now.1.list.number < number = has.1 in omega arith),
+    ) in
     record {
-      numbers = record {
-        names_of = names_of;
-        same = all_put (λ source. source.1.list.names ≡ names_of source.1.list.number) xs ys x
-            (both (xs ++ ys) numbered.numbers.same numbered.below) new;
-      };
-      below = all_put (λ source. source.1.list.number < number + 1) xs ys x
-          (all_weaker (λ source. source.1.list.number < number) (λ source. source.1.list.number < number + 1)
-          (λ x less. omega arith) (xs ++ ys) numbered.below) (rw own (omega arith));
+      names_of = numbered.names_of;
+      each = all_append (λ source. HasNumber numbered.names_of (number + 1) source.1) xs (x ∷ [])
+          (later_number numbered.names_of number xs numbered.each) (own, tt);
+    }
+numbers_put number xs x like holds (inr own) numbered =
+    record {
+      names_of = names_of;
+      each = all_append (λ source. HasNumber names_of (number + 1) source.1) xs (x ∷ [])
+          (all_weaker (λ source. HasNumber numbered.names_of number source.1)
+          (λ source. HasNumber names_of (number + 1) source.1) old xs numbered.each) (new, tt);
     }
   where
     names_of : ℕ → List Name
-    names_of n = cond (eqb n number) x.1.list.names (numbered.numbers.names_of n)
+    names_of n = cond (eqb n number) x.1.list.names (numbered.names_of n)
 
-    new : x.1.list.names ≡ names_of x.1.list.number
-    new = rw (eq-eqb x.1.list.number number own) refl
+    new : HasNumber names_of (number + 1) x.1
+    new = (rw (eq-eqb x.1.list.number number own) refl, rw own (omega arith))
 
-    old : (source : Name × Listed) → source.1.list.names ≡ numbered.numbers.names_of source.1.list.number
-        → source.1.list.number < number
-        → source.1.list.names ≡ names_of source.1.list.number
-    old source same less = by (eqb_tells source.1.list.number number)
+    old : (source : Name × Listed) → HasNumber numbered.names_of number source.1
+        → HasNumber names_of (number + 1) source.1
+    old source has = by (eqb_tells source.1.list.number number)
       where
+        less : source.1.list.number < number
+        less = has.1
+
         by : ((eqb source.1.list.number number ≡ true) × (source.1.list.number ≡ number))
             ⊎ ((eqb source.1.list.number number ≡ false) × (source.1.list.number ≢ number))
-            → source.1.list.names ≡ names_of source.1.list.number
+            → HasNumber names_of (number + 1) source.1
         by (inl p) = let is : source.1.list.number ≡ number = p.1 in absurd (omega arith)
-        by (inr p) = rw p.0 same
+        by (inr p) = (rw p.0 has.0, omega arith)
 
-    both : (all : Sources)
-        → AllByRecursion (λ source. source.1.list.names ≡ numbered.numbers.names_of source.1.list.number) all
-        → AllByRecursion (λ source. source.1.list.number < number) all
-        → AllByRecursion (λ source. source.1.list.names ≡ names_of source.1.list.number) all
-    both [] same below = tt
-    both (source ∷ all) same below = (old source same.0 below.0, both all same.1 below.1)
+-- ---- sources that changes put
+
+put-push : (changes : Changes) (change : Change (Name × Listed))
+    → put (changes ++ change ∷ []) ≡ put changes ++ option_to_list change.1
+put-push [] change = append-nil (option_to_list change.1)
+put-push (first ∷ changes) change =
+    ap (λ more. option_to_list first.1 ++ more) (put-push changes change)
+    ∙ sym (append_assoc (option_to_list first.1) (put changes) (option_to_list change.1))
+
+-- one change more
+pub numbers_more : (number : ℕ) (xs : Sources) (changes : Changes)
+    (change : Change (Name × Listed)) (like : Option (Bor (Name × Listed)))
+    → ((names_of : ℕ → List Name) (next : ℕ)
+    → AllByRecursion (λ source. HasNumber names_of next source.1) (xs ++ put changes)
+    → IfSome like (λ from. HasNumber names_of next from.now.1))
+    → IfSome change.1 (λ from. IsSharedOrNew (option_map (λ from. from.now.1.list) like) number from.1.list)
+    → AreNumbered number (xs ++ put changes) → AreNumbered (number + 1) (xs ++ put (changes ++ change ∷ []))
+numbers_more number xs changes change like holds has numbered =
+    subst (AreNumbered (number + 1))
+    (append_assoc xs (put changes) (option_to_list change.1)
+    ∙ ap (λ more. xs ++ more) (sym (put-push changes change))) (by change.1 has)
+  where
+    by : (own : Option (Name × Listed))
+        → IfSome own (λ from. IsSharedOrNew (option_map (λ from. from.now.1.list) like) number from.1.list)
+        → AreNumbered (number + 1) ((xs ++ put changes) ++ option_to_list own)
+    by None has = numbers_next number (xs ++ put changes) numbered
+    by (Some from) has = numbers_put number (xs ++ put changes) from like holds has numbered
+
+module _ (P : Name × Listed → Type 0) where
+  each_put : (changes : Changes) → AllByRecursion P (put changes)
+      → AllByRecursion (λ change. IfSome change.1 P) changes
+  each_put [] h = tt
+  each_put (change ∷ changes) h = (
+    by change.1 (all_left P (option_to_list change.1) (put changes) h),
+    each_put changes (all_right P (option_to_list change.1) (put changes) h),
+  )
+    where
+      by : (own : Option (Name × Listed)) → AllByRecursion P (option_to_list own) → IfSome own P
+      by None h = tt
+      by (Some from) h = h.0
+
+  -- what holds of all that were there and of all that are put
+  pub all_put_at : (xs : Sources) (changes : Changes) (place : ℕ)
+      (change : Change (Name × Listed)) → AllByRecursion P (xs ++ put changes)
+      → slice_get changes place ≡ Some change → IfSome change.1 P
+  all_put_at xs changes place change h there =
+      at changes place (each_put changes (all_right P xs (put changes) h)) there
+    where
+      at : (rest : Changes) (place : ℕ) → AllByRecursion (λ change. IfSome change.1 P) rest
+          → slice_get rest place ≡ Some change → IfSome change.1 P
+      at [] place h there = cc
+      at (first ∷ rest) zero h there =
+          let same : first ≡ change = cc in subst (λ (change : Change (Name × Listed)). IfSome change.1 P) same h.0
+      at (first ∷ rest) (suc place) h there = at rest place h.1 there
+
+-- and so the sources after changes are numbered
+pub changed_numbered : (next : ℕ) (xs : Sources) (changes : Changes)
+    → AreNumbered next (xs ++ put changes) → AreNumbered next (changed name_of xs changes)
+changed_numbered next xs changes numbered = record {
+  names_of = numbered.names_of;
+  each = all_changed name_of (λ source. HasNumber numbered.names_of next source.1) xs changes
+      (all_left (λ source. HasNumber numbered.names_of next source.1) xs (put changes) numbered.each)
+      (each_put (λ source. HasNumber numbered.names_of next source.1) changes
+      (all_right (λ source. HasNumber numbered.names_of next source.1) xs (put changes) numbered.each));
+}
 
 -- ---- places
 
@@ -261,26 +257,3 @@ pub told_none : (sources : Sources) (src : Name) (dsts : List Name) → lookup (
 told_none sources src dsts none =
     sym (ap (λ costs. map (λ dst. option_and_then (λ (from : Costs). cost_to from dst) costs) dsts)
     (lookup-table_of (is_at (name_cmp src)) sources ∙ ap (option_map (λ (from : Listed). from.costs)) none))
-
--- ---- a table that is made anew
-
--- one turn of the loop over names
-pub told_put : (costs : Name → Costs) (name : Name) (names : List Name) (old shared new left rest : Sources)
-    (whole : Table)
-    → shared ≡ old ++ before name left → rest ≡ behind name left
-    → table_of new ≡ table_of shared ++ standing name (costs name)
-    → table_of old ++ renewed costs (name ∷ names) (table_of left) ≡ whole
-    → table_of new ++ renewed costs names (table_of rest) ≡ whole
-told_put costs name names old shared new left rest whole is_shared is_rest is_new all =
-    let front = before name (table_of left) in
-    let own = standing name (costs name) in
-    let back = renewed costs names (behind name (table_of left)) in
-    let first : table_of shared ≡ table_of old ++ front =
-    ap table_of is_shared
-    ∙ (map-append (λ (source : Name × Listed). (source.0, source.1.costs)) old (before name left)
-    ∙ ap (λ (more : Table). table_of old ++ more) (before-table_of name left)) in
-    let last : table_of rest ≡ behind name (table_of left) = ap table_of is_rest ∙ behind-table_of name left in
-    rw (is_new, first, last)
-    (append_assoc (table_of old ++ front) own back
-    ∙ (append_assoc (table_of old) front (own ++ back)
-    ∙ (ap (λ (more : Table). table_of old ++ more) (sym (append_assoc front own back)) ∙ all)))

@@ -23,7 +23,7 @@ use Rattle.alto_rows.proofs.TouchesLemmas.{one_name}
 use Rattle.cost_tables.specs.Lists.{ArePlaces, IsPlace}
 use Rattle.cost_tables.specs.Tables.{Costs, Name, cost_given, cost_to}
 use Rattle.cost_tables.proofs.FromLemmas.{cost_to-place}
-use Rattle.cost_tables.proofs.SearchLemmas.{found, lookup_from_search}
+use Rattle.shared_list.proofs.SearchLemmas.{found, lookup_from_search}
 
 -- a pair more
 pub zip_push : (names : List Name) (costs : List ℕ) (name : Name) (cost : ℕ) → length costs ≡ length names

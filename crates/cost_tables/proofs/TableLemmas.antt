@@ -10,23 +10,19 @@ use Rattle.alto_rows.specs.declared.write.Write.{Write}
 use Rattle.alto_rows.specs.Costs.{cost_of, number_at}
 use Rattle.alto_rows.specs.Order.{key_cmp, same_name}
 use Rattle.alto_rows.specs.Rows.{AreSorted, Rows, after, value_of}
-use Rattle.alto_rows.proofs.OrderLemmas.{name_cmp_itself, one_key}
+use Rattle.alto_rows.proofs.OrderLemmas.{one_key}
+use Rattle.alto_rows.proofs.TouchesLemmas.{same_name_itself}
 use Rattle.alto_rows.proofs.WriteLemmas.{NoneWrites, value_of-after-none}
-use Rattle.cost_tables.specs.Renewed.{renewed}
+use Rattle.cost_tables.specs.Renewed.{IsRenewed}
 use Rattle.cost_tables.specs.Tables.{IsSetOf, Name, Table, TellsCosts, cost_to, cost_told, costs_from, source_of}
 use Rattle.cost_tables.specs.Tables.{sources_of}
 use Rattle.cost_tables.proofs.FromLemmas.{cost_to-costs_from}
-use Rattle.cost_tables.proofs.RenewedLemmas.{InOrder, cost_told-renewed, none_in_order, tied}
 
 -- ---- sources that keys aren't of
 
--- a name is itself
-itself : (name : Name) → same_name name name ≡ true
-itself name = tied name name (name_cmp_itself name)
-
 -- the key of a cost is of its source
 source_of-cost : (net metric src dst : Name) → source_of net metric (key.Cost net metric src dst) ≡ Some src
-source_of-cost net metric src dst = rw (itself net, itself metric) refl
+source_of-cost net metric src dst = rw (same_name_itself net, same_name_itself metric) refl
 
 right_false : (a b : Bool) → (a || b) ≡ false → b ≡ false
 right_false true b h = cc
@@ -52,7 +48,7 @@ unnamed net metric src dst (k ∷ keys) none = (
     apart true e =
         let one : key.Cost net metric src dst ≡ k = one_key (key.Cost net metric src dst) k e in
         let here : source_of net metric k ≡ Some src = rw (← one) (source_of-cost net metric src dst) in
-        let bad : true ≡ false = rw (here, itself src) at none in
+        let bad : true ≡ false = rw (here, same_name_itself src) at none in
         cc
 
 -- so it has no cost among rows
@@ -70,12 +66,11 @@ none_written at (write ∷ writes) none = (none.0, none_written at writes none.1
 -- ---- tables
 
 -- a table with the sources of rows made anew tells their costs
-pub table_of_rows : (rows : Rows) (net metric : Name) (sources : List Name) → AreSorted rows
-    → IsSetOf sources (sources_of net metric (keys_of rows))
-    → TellsCosts rows net metric (renewed (costs_from rows net metric) sources [])
-table_of_rows rows net metric sources sorted set src dst =
-    cost_told-renewed (costs_from rows net metric) sources [] src dst set.rise none_in_order
-    ∙ by (list_any (same_name src) sources) refl
+pub table_of_rows : (rows : Rows) (net metric : Name) (sources : List Name) (table : Table) → AreSorted rows
+    → IsSetOf sources (sources_of net metric (keys_of rows)) → IsRenewed (costs_from rows net metric) sources [] table
+    → TellsCosts rows net metric table
+table_of_rows rows net metric sources table sorted set made src dst =
+    made src dst ∙ by (list_any (same_name src) sources) refl
   where
     by : (b : Bool) → list_any (same_name src) sources ≡ b
         → cond b (cost_to (costs_from rows net metric src) dst) (cost_told [] src dst) ≡ cost_of rows net metric src dst
@@ -97,14 +92,12 @@ cost_of-unwritten before writes net metric src dst sorted none =
 
 -- a table before writes, with the sources written made anew, tells the costs after them
 pub table_after_writes : (rows before : Rows) (writes : List Write) (net metric : Name) (sources : List Name)
-    (table : Table) → AreSorted rows → InOrder table
-    → IsSetOf sources (sources_of net metric (map (λ write. write.key) writes)) → AreSorted before
-    → rows ≡ after before writes
-    → TellsCosts before net metric table
-    → TellsCosts rows net metric (renewed (costs_from rows net metric) sources table)
-table_after_writes rows before writes net metric sources table sorted in_order set sorted_before is told src dst =
-    cost_told-renewed (costs_from rows net metric) sources table src dst set.rise in_order
-    ∙ by (list_any (same_name src) sources) refl
+    (table later : Table) → AreSorted rows
+    → IsSetOf sources (sources_of net metric (map (λ write. write.key) writes))
+    → IsRenewed (costs_from rows net metric) sources table later → AreSorted before → rows ≡ after before writes
+    → TellsCosts before net metric table → TellsCosts rows net metric later
+table_after_writes rows before writes net metric sources table later sorted set made sorted_before is told src dst =
+    made src dst ∙ by (list_any (same_name src) sources) refl
   where
     by : (b : Bool) → list_any (same_name src) sources ≡ b
         → cond b (cost_to (costs_from rows net metric src) dst) (cost_told table src dst)

@@ -29,10 +29,14 @@ pub record HaveNumbers (sources : Sources) : Type 0 where
   pub names_of : ℕ → List Name
   pub same : AllByRecursion (λ source. source.1.list.names ≡ names_of source.1.list.number) sources
 
--- and all numbers are below the next one
+-- a list has the names of its number, which is below the next one
+abbrev pub HasNumber : (ℕ → List Name) → ℕ → Listed → Type 0
+HasNumber names_of next from = (from.list.names ≡ names_of from.list.number) × (from.list.number < next)
+
+-- and so has each
 pub record AreNumbered (next : ℕ) (sources : Sources) : Type 0 where
-  pub numbers : HaveNumbers sources
-  pub below : AllByRecursion (λ source. source.1.list.number < next) sources
+  pub names_of : ℕ → List Name
+  pub each : AllByRecursion (λ source. HasNumber names_of next source.1) sources
 
 -- a list is that of another source, if there is one, or a new one with this number
 abbrev pub IsSharedOrNew : Option Numbered → ℕ → Numbered → Type 0

@@ -1,26 +1,37 @@
 -- A table of which the costs from some sources are made anew, and all others stay.
-use Rattle.std.specs.Prelude.{List, [], ◌∷◌, ◌++◌}
-use Rattle.std.specs.Ordering.{match_ordering}
-use Rattle.alto_rows.specs.Order.{name_cmp}
-use Rattle.cost_tables.specs.Tables.{Costs, Name, Table}
+use Rattle.std.specs.Prelude.{◌≡◌, List, [], Option, Some, None, IfSome, if◌then◌else◌}
+use Rattle.std.specs.List.{AllByRecursion, flat_map, list_any}
+use Rattle.std.specs.Map.{keys_of}
+use Rattle.std.specs.Option.{option_to_list}
+use Rattle.alto_rows.specs.Order.{same_name}
+use Rattle.cost_tables.specs.Lists.{Listed, Sources}
+use Rattle.cost_tables.specs.Tables.{Costs, Name, Table, cost_to, cost_told}
+use Rattle.shared_list.specs.Changed.{Change}
 
--- of sources in byte order, those before a name
-abbrev pub before : {X : Type 0} → Name → List (Name × X) → List (Name × X)
-before name [] = []
-before name (from ∷ table) = match_ordering (name_cmp from.0 name) (from ∷ before name table) [] []
+-- a table tells other costs from these sources, and from all others those of a table before
+abbrev pub IsRenewed : (Name → Costs) → List Name → Table → Table → Type 0
+IsRenewed costs names before after = (src dst : Name) → cost_told after src dst
+    ≡ (if list_any (same_name src) names then cost_to (costs src) dst else cost_told before src dst)
 
--- those behind it
-abbrev pub behind : {X : Type 0} → Name → List (Name × X) → List (Name × X)
-behind name [] = []
-behind name (from ∷ table) = match_ordering (name_cmp from.0 name) (behind name table) table (from ∷ table)
+-- the name of a source
+abbrev pub name_of : Name × Listed → Name
+name_of from = from.0
 
--- a source with its costs, where there are any
-abbrev pub standing : Name → Costs → Table
-standing src [] = []
-standing src (cost ∷ costs) = (src, cost ∷ costs) ∷ []
+-- the costs of a source that a table has, or hasn't
+abbrev pub costs_in : Option (Name × Listed) → Costs
+costs_in None = []
+costs_in (Some from) = from.1.costs
 
--- sources in byte order, those of these names with other costs
-abbrev pub renewed : (Name → Costs) → List Name → Table → Table
-renewed costs [] table = table
-renewed costs (name ∷ names) table =
-    before name table ++ standing name (costs name) ++ renewed costs names (behind name table)
+-- changes of sources
+abbrev pub Changes : Type 0
+Changes = List (Change (Name × Listed))
+
+-- the sources that they put into a table
+abbrev pub put : Changes → Sources
+put changes = flat_map (λ change. option_to_list change.1) changes
+
+-- changes of these sources, to these costs
+pub record AreChanges (costs : Name → Costs) (sources : List Name) (changes : Changes) : Type 0 where
+  pub names : keys_of changes ≡ sources
+  pub named : AllByRecursion (λ change. IfSome change.1 (λ from. from.0 ≡ change.0)) changes
+  pub told : AllByRecursion (λ change. costs_in change.1 ≡ costs change.0) changes

@@ -14,6 +14,7 @@ use crate::numbers::Numbers;
 use crate::pid_text::PidText;
 use alto_names::{Metric, NetName, PidName};
 use alto_rows::{Key, RowStore, Span, Value, Within, rows_in};
+use shared_list::Named;
 use std::alloc::{AllocError, Global};
 use std::marker::Model;
 use std::sync::Arc;
@@ -76,13 +77,6 @@ impl FromSource {
         })
     }
 
-    /// The source.
-    pub(crate) fn source(&self) -> &PidName
-        ensures { result.now ≡ self.now.0 }
-    {
-        &self.source
-    }
-
     /// The number of the list of the destinations.
     pub(crate) fn number(&self) -> u64
         ensures { result ≡ self.now.1.list.number }
@@ -114,6 +108,14 @@ impl FromSource {
         ensures even { length result.now ≡ length self.now.1.list.names }
     {
         &self.costs
+    }
+}
+
+impl Named for FromSource {
+    ghost name = { λ from. from.0 };
+
+    fn name(&self) -> &[u8] {
+        self.source.as_bytes()
     }
 }
 

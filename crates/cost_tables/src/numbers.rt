@@ -50,8 +50,8 @@ impl Numbers {
         }
     }
 
-    /// Puts those at places behind others, `None` where there is none. No read waits for another, as it would where each
-    /// were written to an answer first.
+    /// Puts those at places behind others, `None` where there is none. No read waits for another, as it would where
+    /// each were written to an answer first.
     pub(crate) fn push_at(
         &self,
         places: &[usize],

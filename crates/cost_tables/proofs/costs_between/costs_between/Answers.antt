@@ -35,5 +35,6 @@ returns c =
     let width = length c.args.destinations.now in
     let past : length sources ≤ l.source-index = omega (arith, c.loop-source-test.false) in
     c.new.ensures
-    ∙ (ap (rows_of (length sources) width) (all_costs costs_from sources l.source-index l.costs.items past l.invariant.0)
+    ∙ (ap (rows_of (length sources) width)
+    (all_costs costs_from sources l.source-index l.costs.items past l.invariant.0)
     ∙ rows_joined costs_from width sources (λ source. length-map c.args.destinations.now _))

@@ -2,4 +2,5 @@ use Rattle.std.proofs.Common.{◌≡◌, ◌++◌, map, slice_get, take}
 use Rattle.cost_tables.proofs.numbers.push_narrow.Given as goal
 
 abbrev pub invariant-loop-place : goal.invariant-loop-place
-invariant-loop-place l = l.found.items ≡ l.initial.found.items ++ map (slice_get l.numbers) (take l.place-index l.places)
+invariant-loop-place l =
+    l.found.items ≡ l.initial.found.items ++ map (slice_get l.numbers) (take l.place-index l.places)

@@ -1,17 +1,12 @@
 -- Where no source was written the table stays; else the costs from those that were are made anew.
-use Rattle.std.proofs.Common.{◌≡◌, ap, sym, ◌∙◌, arith, [], vec_len, eqb-true, IfOk, Result, Ok, Err}
+use Rattle.std.proofs.Common.{◌≡◌, sym, ◌∙◌, arith, [], vec_len, eqb-true, IfOk, Result, Ok, Err, map}
 use Rattle.std.proofs.lemmas.List.{nil_from_length}
 use Rattle.std.specs.Arc.{arc_value}
-use Rattle.std.specs.List.Sorted.{IsStrictlySortedBy}
-use Rattle.std.specs.Map.{keys_of}
-use Rattle.std.specs.Prelude.{map}
 use Rattle.std.specs.declared.sync.Arc.{Arc}
-use Rattle.alto_rows.specs.Order.{name_cmp}
 use Rattle.alto_rows.specs.Rows.{AreSorted, Rows, after}
 use Rattle.cost_tables.specs.Lists.{Sources, table_of}
-use Rattle.cost_tables.specs.Renewed.{renewed}
+use Rattle.cost_tables.specs.Renewed.{IsRenewed}
 use Rattle.cost_tables.specs.Tables.{IsSetOf, TellsCosts, costs_from, sources_of}
-use Rattle.cost_tables.proofs.ListLemmas.{keys_of-table_of}
 use Rattle.cost_tables.proofs.TableLemmas.{table_after_writes, table_unwritten}
 use Rattle.cost_tables.proofs.table.Table.after.Goals as goal
 
@@ -44,11 +39,8 @@ returns g c before sorted is told =
     let table = arc_value c.args.table.now in
     let set : IsSetOf sources (sources_of net metric (map (λ write. write.key) c.args.writes.now)) =
     rw c.deref-2.ensures.value c.in_ok-sources.ensures in
-    let rise : IsStrictlySortedBy name_cmp (keys_of table) =
-    rw c.deref.ensures at c.in_ok-renewed.ensures.in_order in
-    let in_order : IsStrictlySortedBy name_cmp (keys_of (table_of table)) = rw (keys_of-table_of table) rise in
-    let made : table_of (arc_value c.in_ok-new.field-0)
-    ≡ renewed (costs_from rows net metric) sources (table_of table) =
-    ap table_of c.in_ok-new.ensures.ok ∙ (rw c.deref.ensures at c.in_ok-renewed.ensures.gives) in
-    rw made (table_after_writes rows before c.args.writes.now net metric sources (table_of table) c.requires in_order
-    set sorted is told)
+    let later = arc_value c.in_ok-new.field-0 in
+    let made : IsRenewed (costs_from rows net metric) sources (table_of table) (table_of later) =
+    rw (c.in_ok-new.ensures.ok, ← c.deref.ensures) c.in_ok-renewed.ensures in
+    table_after_writes rows before c.args.writes.now net metric sources (table_of table)
+    (table_of later) c.requires set made sorted is told

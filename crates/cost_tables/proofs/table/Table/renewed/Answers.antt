@@ -1,57 +1,43 @@
--- The table that is made is in byte order, and its lists are numbered.
-use Rattle.std.proofs.Common.{◌≡◌, ◌∙◌, ◌++◌, ◌∷◌, ◌+◌, [], ap, drop, map, refl, subst}
-use Rattle.std.proofs.lemmas.List.{drop_all, drop_more, map-append}
-use Rattle.std.specs.Arc.{arc_value}
-use Rattle.std.specs.List.Sorted.{IsStrictlySortedBy}
-use Rattle.std.specs.Map.{keys_of}
-use Rattle.alto_rows.specs.Order.{name_cmp}
-use Rattle.cost_tables.specs.Lists.{AreNumbered, Listed, Sources, table_of}
-use Rattle.cost_tables.specs.Renewed.{renewed}
-use Rattle.cost_tables.specs.Tables.{Name, costs_from}
-use Rattle.cost_tables.proofs.ListLemmas.{keys_of-table_of, numbers_shared, told_put}
-use Rattle.cost_tables.proofs.RenewedLemmas.{renewed_in_order}
+-- The changes are those of all sources.
+use Rattle.std.proofs.Common.{◌≡◌, ◌++◌, ◌∷◌, ◌+◌, [], refl, take}
+use Rattle.std.proofs.lemmas.List.{take_all, take_more}
+use Rattle.cost_tables.specs.Renewed.{AreChanges}
+use Rattle.cost_tables.specs.Tables.{costs_from}
+use Rattle.cost_tables.proofs.ListLemmas.{changed_numbered, numbers_more}
+use Rattle.cost_tables.proofs.RenewedLemmas.{changes_more, is_renewed}
 use Rattle.cost_tables.proofs.table.Table.renewed.Goals as goal
 
 pub loop-source-preserved : goal.loop-source-preserved
 loop-source-preserved g c =
     let costs = costs_from (g.R.RowStore.rows c.args.rows.now) c.args.net.now c.args.metric.now in
-    let name = c.source-item.result in
-    let names = drop (c.loop-source.source-index + 1) c.args.sources.now in
-    let step : drop c.loop-source.source-index c.args.sources.now ≡ name ∷ names =
-    rw (
-      drop_more c.args.sources.now c.loop-source.source-index name c.loop-source-test.true,
-      ← c.source-item.is,
-    ) refl in
-    let old : Sources = map arc_value c.loop-source.renewed.items in
-    let left : Sources = map arc_value c.loop-source.left.now in
-    let shared : Sources = map arc_value c.share_before.new.shared.items in
-    let new : Sources = map arc_value c.put_standing.new.sources.items in
-    let rest : Sources = map arc_value c.in_ok-left.left.now in
-    let numbered : AreNumbered c.loop-source.next (shared ++ rest) =
-    rw (c.in_ok-left.ensures.shared, c.in_ok-left.ensures.left)
-    (numbers_shared c.loop-source.next name old left c.loop-source.invariant.1) in (
-      told_put costs name names old shared new left rest (renewed costs c.args.sources.now (table_of c.args.self.now))
-          c.in_ok-left.ensures.shared c.in_ok-left.ensures.left c.in_ok-put_standing.ensures.costs
-          (rw step at c.loop-source.invariant.0),
-      rw c.in_ok-next.ensures (c.in_ok-put_standing.ensures.lists numbered),
-    )
+    let sources = c.args.sources.now in
+    let source = c.source-item.result in
+    let changes = c.loop-source.changes.items in
+    let change = c.in_ok-change.change in
+    let more : take (c.loop-source.source-index + 1) sources ≡ take c.loop-source.source-index sources ++ source ∷ [] =
+    rw (take_more sources c.loop-source.source-index source c.loop-source-test.true, ← c.source-item.is) refl in
+    record {
+      changes = rw (c.in_ok-push.ensures.items, more)
+          (changes_more costs (take c.loop-source.source-index sources) changes source change
+          c.loop-source.invariant.changes c.in_ok-change.ensures.source c.in_ok-change.ensures.named
+          c.in_ok-change.ensures.costs);
+      numbered = rw (c.in_ok-push.ensures.items, c.in_ok-next.ensures)
+          (numbers_more c.loop-source.next c.args.self.now changes change c.like-like.result
+          (λ names_of next each. c.like-like.ensures names_of next (rw c.deref.ensures.value each))
+          c.in_ok-change.ensures.list c.loop-source.invariant.numbered);
+    }
 
 pub invariant_of-result : goal.invariant_of-result
 invariant_of-result g c =
+    rw (c.in_ok-changed.ensures.after, c.self.view_is)
+    (changed_numbered c.loop-source.next c.args.self.now c.loop-source.changes.items c.loop-source.invariant.numbered)
+
+pub returns : goal.returns
+returns g c =
     let costs = costs_from (g.R.RowStore.rows c.args.rows.now) c.args.net.now c.args.metric.now in
-    let none : drop c.loop-source.source-index c.args.sources.now ≡ [] =
-    drop_all c.loop-source.source-index c.args.sources.now c.loop-source-test.false in
-    let before : Sources = c.args.self.now in
-    let old : Sources = map arc_value c.loop-source.renewed.items in
-    let left : Sources = map arc_value c.loop-source.left.now in
-    let made : Sources = map arc_value c.share.new.shared.items in
-    let is : table_of made ≡ renewed costs c.args.sources.now (table_of before) =
-    ap table_of c.in_ok-share.ensures
-    ∙ (map-append (λ (source : Name × Listed). (source.0, source.1.costs)) old left
-    ∙ (rw none at c.loop-source.invariant.0)) in
-    let sorted : IsStrictlySortedBy name_cmp (keys_of before) =
-    subst (λ (sources : Sources). IsStrictlySortedBy name_cmp (keys_of sources)) c.self.view_is c.self.invariant.0 in
-    let rise : IsStrictlySortedBy name_cmp (keys_of (table_of before)) = rw (keys_of-table_of before) sorted in
-    let in_order : IsStrictlySortedBy name_cmp (keys_of (table_of made)) =
-    rw is (renewed_in_order costs c.args.sources.now (table_of before) c.requires.rise rise) in
-    (rw (keys_of-table_of made) at in_order, rw c.in_ok-share.ensures c.loop-source.invariant.1)
+    let sources = c.args.sources.now in
+    let changes = c.loop-source.changes.items in
+    let made : AreChanges costs sources changes =
+    rw (take_all c.loop-source.source-index sources c.loop-source-test.false) at c.loop-source.invariant.changes in
+    rw (c.in_ok-changed.ensures.after, c.self.view_is)
+    (is_renewed costs sources c.args.self.now changes c.requires.rise made)
