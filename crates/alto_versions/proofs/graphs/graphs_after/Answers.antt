@@ -61,8 +61,8 @@ loop-of-preserved g c =
           c.graphs_from-left.ensures
           c.loop-of.invariant.whole;
       keys =
-          (next_keys c.args.writes.now c.loop-of.found.rest.items c.next-own.new.self.rest.items c.loop-of.found.rest.len
-          c.next-own.result c.in-Some.of c.next.new.self.rest.items c.next-own.ensures.items
+          (next_keys c.args.writes.now c.loop-of.found.rest.items c.next-own.new.self.rest.items
+          c.loop-of.found.rest.len c.next-own.result c.in-Some.of c.next.new.self.rest.items c.next-own.ensures.items
           (omega (arith, c.loop-of.found.rest.ok)) c.next-own.ensures.variant.1
           (subst (λ (left : List Resource). AreTouching c.args.writes.now (lists c.loop-of.found.rest.items) left)
           c.in-Some.ensures.steps.0 c.loop-of.invariant.keys)).1;

@@ -26,6 +26,6 @@ returns g c =
     (λ (after : Bool) put.
     subst (λ (of : Name). PutsIfAny of (found_object multi dsts (row dsts src)) c.args.later old after new)
     c.as_str.ensures
-    (subst (λ (row : Found). PutsIfAny c.as_str.result.now (found_object multi dsts row) c.args.later old after new) found
-    (put dsts c.starts.ensures)))
+    (subst (λ (row : Found). PutsIfAny c.as_str.result.now (found_object multi dsts row) c.args.later old after new)
+    found (put dsts c.starts.ensures)))
     c.push_group.ensures

@@ -24,7 +24,10 @@ newest-requires-clause-kept g c =
 
 pub invariant_of-result : goal.invariant_of-result
 invariant_of-result g c =
-    let push : Push = record { rows = g.R.RowStore.rows (arc_value c.args.rows.now); keys = key_set c.args.keys.items } in
+    let push : Push = record {
+      rows = g.R.RowStore.rows (arc_value c.args.rows.now);
+      keys = key_set c.args.keys.items;
+    } in
     let of = c.args.of.now in
     let kept = map arc_value c.in_ok-texts.texts.items in
     let had : All (AreTextsAt c.self.inside.graph of) kept =

@@ -51,7 +51,8 @@ pub graphs_after-requires-clause-keys : goal.graphs_after-requires-clause-keys
 graphs_after-requires-clause-keys g c =
     let found = lists c.in_ok-renewed.renewed.keys.items in
     let all = resources_of (g.R.RowStore.rows (arc_value c.in_ok-rows.rows)) in
-    subst (λ (writes : List Write). AreTouching writes found all) (c.deref-8.ensures.value ∙ sym c.deref-11.ensures.value)
+    subst (λ (writes : List Write). AreTouching writes found all)
+    (c.deref-8.ensures.value ∙ sym c.deref-11.ensures.value)
     (subst (λ (rows : Rows). AreTouching c.deref-8.result.now found (resources_of rows))
     (ap g.R.RowStore.rows c.deref-7.ensures) c.in_ok-renewed.ensures.keys)
 
