@@ -84,6 +84,13 @@ impl FromSource {
         self.list.number()
     }
 
+    /// How many costs the source has.
+    pub(crate) fn count(&self) -> usize
+        ensures { result ≡ length self.now.1.list.names }
+    {
+        self.list.names().len()
+    }
+
     /// Whether the source has no cost.
     pub(crate) fn is_empty(&self) -> bool
         ensures { result ≡ nat_eq (length self.now.1.costs) 0 }

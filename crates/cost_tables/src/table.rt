@@ -16,7 +16,7 @@ use crate::from_source::FromSource;
 use crate::pid_text::PidText;
 use crate::sources::{sources_in, sources_written};
 use alto_names::{Metric, NetName, PidName};
-use alto_rows::{RowStore, Write};
+use alto_rows::{RowStore, Span, Write};
 use shared_list::{Change, SharedList};
 use std::alloc::{AllocError, Global};
 use std::marker::Model;
@@ -109,7 +109,7 @@ impl Table {
         let mut changes = Vec::with_capacity(alloc, sources.len())?;
         let mut next = self.next;
         for source in sources {
-            let like = self.like(source, &changes);
+            let like = self.like(count_from(rows, net, metric, source)?, source, &changes);
             let change = change_of(alloc, rows, net, metric, source, like, next)?;
             changes.push(change)?;
             next = following(next)?;
@@ -120,10 +120,11 @@ impl Table {
         })
     }
 
-    /// A source that may have the same destinations as one that is made anew behind changes: that source itself, else
-    /// the one that was made last, else the first.
+    /// A source that may have the same destinations as one that is made anew behind changes, with so many costs: that
+    /// source itself, if it has as many, else the one that was made last, else the first.
     fn like<'a>(
         &'a self,
+        count: usize,
         source: &PidName,
         changes: &'a [Change<'_, FromSource>],
     ) -> Option<&'a FromSource>
@@ -132,13 +133,26 @@ impl Table {
             → IfSome result (λ from. HasNumber names_of next from.now.1) }
     {
         if let Some(own) = self.sources.find(source.as_bytes()) {
-            return Some(own);
+            if own.count() == count {
+                return Some(own);
+            }
         }
         match changes.last() {
             Some(change) => change.item(),
             None => self.sources.items().next(),
         }
     }
+}
+
+/// How many costs from a source rows give. One search for each end of them.
+fn count_from<R: RowStore>(
+    rows: &R,
+    net: &NetName,
+    metric: &Metric,
+    source: &PidName,
+) -> Result<usize, AllocError> {
+    let span = Span::CostsFrom(net.clone()?, metric.clone()?, source.clone()?);
+    Ok(rows.count_in(&span))
 }
 
 /// A source with the costs that rows give, if there are any. A new list of its destinations gets this number.

@@ -17,8 +17,8 @@ if_now : (P : Name × Listed → Type 0) (found : Option (Bor (Name × Listed)))
 if_now P None holds = tt
 if_now P (Some from) holds = holds
 
-pub returns-in-Some : goal.returns-in-Some
-returns-in-Some c names_of next each =
+pub returns-then-count : goal.returns-then-count
+returns-then-count c names_of next each =
     let sources = c.args.self.now in
     let q = c.args.source.now in
     let own = c.in-Some.own.now in
