@@ -124,7 +124,7 @@ impl<R: RowStore> Front<R> {
     /// each declared resource and once for each network and for each metric, a copy of each key for each resource that
     /// it touches, a range table for each network whose prefixes it wrote, for each map that it changed a walk over the
     /// groups and the writing of those that it touched, and for each metric of which it wrote a cost a walk over the
-    /// sources, and one over the rows of each source of which it wrote one.
+    /// sources, and for each source of which it wrote one a copy of its costs or a walk over its rows.
     pub fn with(&self, alloc: Global, batch: &Batch) -> Result<Front<R>, AllocError>
         requires room { self.now.n < 2 ^ 63 }
         requires good { AreGood (after self.now.rows batch.now.writes) }

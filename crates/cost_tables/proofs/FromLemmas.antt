@@ -24,13 +24,13 @@ use Rattle.cost_tables.specs.Tables.{Costs, Name, cost_to, costs_from}
 -- ---- the row of a pair
 
 -- the key of the cost of a pair
-abbrev is_cost_key : Name → Name → Name → Name → Key → Bool
+abbrev pub is_cost_key : Name → Name → Name → Name → Key → Bool
 is_cost_key net metric src dst (key.Cost of kind from to) =
     same_name net of && (same_name metric kind && (same_name src from && same_name dst to))
 is_cost_key net metric src dst _ = false
 
 -- it is the one that is looked for
-cost_key : (net metric src dst : Name) (at : Key)
+pub cost_key : (net metric src dst : Name) (at : Key)
     → is_at (key_cmp (key.Cost net metric src dst)) at ≡ is_cost_key net metric src dst at
 unfolding key_cmp
 cost_key net metric src dst (key.Cost of kind from to) =

@@ -1,4 +1,5 @@
 pub mod FromLemmas
+pub mod OverwriteLemmas
 pub mod PairLemmas
 pub mod SourceLemmas
 pub mod RenewedLemmas

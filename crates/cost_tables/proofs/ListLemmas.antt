@@ -14,7 +14,8 @@ use Rattle.std.specs.List.{AllByRecursion}
 use Rattle.std.specs.Map.{keys_of, lookup}
 use Rattle.std.specs.Option.{option_to_list}
 use Rattle.alto_rows.specs.Order.{name_cmp}
-use Rattle.cost_tables.specs.Lists.{AreNumbered, ArePlaces, ArePlacesIn, HasNumber, HaveNumbers, IsSharedOrNew}
+use Rattle.cost_tables.specs.Lists.{AreNumbered, ArePlaces, ArePlacesIn, HasNumber, HaveNumbers}
+use Rattle.cost_tables.specs.Lists.{IsNumberedBehind, IsSharedOrNew}
 use Rattle.cost_tables.specs.Lists.{Listed, Numbered, Sources, table_of}
 use Rattle.cost_tables.specs.Renewed.{Changes, name_of, put}
 use Rattle.cost_tables.specs.Tables.{Costs, Name, cost_to, cost_told}
@@ -96,52 +97,56 @@ numbers_next number xs numbered =
           xs [] (later_number numbered.names_of number xs numbered.each) tt;
     }
 
--- a source is put, with a list that another one has, or a new one under the number
-pub numbers_put : (number : ℕ) (xs : Sources) (x : Name × Listed) (like : Option (Bor (Name × Listed)))
-    → ((names_of : ℕ → List Name) (next : ℕ) → AllByRecursion (λ source. HasNumber names_of next source.1) xs
-    → IfSome like (λ from. HasNumber names_of next from.now.1))
-    → IsSharedOrNew (option_map (λ from. from.now.1.list) like) number x.1.list → AreNumbered number xs
-    → AreNumbered (number + 1) (xs ++ x ∷ [])
-numbers_put number xs x None holds (inl shared) numbered = cc
-numbers_put number xs x (Some like) holds (inl shared) numbered =
-    let is : like.now.1.list ≡ x.1.list = cc in
-    let has : HasNumber numbered.names_of number like.now.1 = holds numbered.names_of number numbered.each in
-    let own : HasNumber numbered.names_of (number + 1) x.1 = (
-      subst (λ (list : Numbered). list.names ≡ numbered.names_of list.number) is has.0,
-      subst (λ (list : Numbered). list.number < number + 1) is
-          (let less : like.now.1.list.number < number = has.1 in omega arith),
-    ) in
-    record {
+-- a source is put, with a list whose number has its names, or a new one under the number
+pub numbers_put : (number : ℕ) (xs : Sources) (x : Name × Listed) → IsNumberedBehind xs number x.1
+    → AreNumbered number xs → AreNumbered (number + 1) (xs ++ x ∷ [])
+numbers_put number xs x behind numbered = by (behind numbered.names_of numbered.each)
+  where
+    by : HasNumber numbered.names_of number x.1 ⊎ (x.1.list.number ≡ number) → AreNumbered (number + 1) (xs ++ x ∷ [])
+    by (inl has) = record {
       names_of = numbered.names_of;
       each = all_append (λ source. HasNumber numbered.names_of (number + 1) source.1) xs (x ∷ [])
-          (later_number numbered.names_of number xs numbered.each) (own, tt);
+          (later_number numbered.names_of number xs numbered.each)
+          ((has.0, let less : x.1.list.number < number = has.1 in omega arith), tt);
     }
-numbers_put number xs x like holds (inr own) numbered =
-    record {
+    by (inr own) = record {
       names_of = names_of;
       each = all_append (λ source. HasNumber names_of (number + 1) source.1) xs (x ∷ [])
           (all_weaker (λ source. HasNumber numbered.names_of number source.1)
-          (λ source. HasNumber names_of (number + 1) source.1) old xs numbered.each) (new, tt);
+          (λ source. HasNumber names_of (number + 1) source.1) old xs numbered.each)
+          ((rw (eq-eqb x.1.list.number number own) refl, rw own (omega arith)), tt);
     }
-  where
-    names_of : ℕ → List Name
-    names_of n = cond (eqb n number) x.1.list.names (numbered.names_of n)
-
-    new : HasNumber names_of (number + 1) x.1
-    new = (rw (eq-eqb x.1.list.number number own) refl, rw own (omega arith))
-
-    old : (source : Name × Listed) → HasNumber numbered.names_of number source.1
-        → HasNumber names_of (number + 1) source.1
-    old source has = by (eqb_tells source.1.list.number number)
       where
-        less : source.1.list.number < number
-        less = has.1
+        names_of : ℕ → List Name
+        names_of n = cond (eqb n number) x.1.list.names (numbered.names_of n)
 
-        by : ((eqb source.1.list.number number ≡ true) × (source.1.list.number ≡ number))
-            ⊎ ((eqb source.1.list.number number ≡ false) × (source.1.list.number ≢ number))
+        old : (source : Name × Listed) → HasNumber numbered.names_of number source.1
             → HasNumber names_of (number + 1) source.1
-        by (inl p) = let is : source.1.list.number ≡ number = p.1 in absurd (omega arith)
-        by (inr p) = (rw p.0 has.0, omega arith)
+        old source has = apart (eqb_tells source.1.list.number number)
+          where
+            less : source.1.list.number < number
+            less = has.1
+
+            apart : ((eqb source.1.list.number number ≡ true) × (source.1.list.number ≡ number))
+                ⊎ ((eqb source.1.list.number number ≡ false) × (source.1.list.number ≢ number))
+                → HasNumber names_of (number + 1) source.1
+            apart (inl p) = let is : source.1.list.number ≡ number = p.1 in absurd (omega arith)
+            apart (inr p) = (rw p.0 has.0, omega arith)
+
+-- a list that is shared with one whose number has its names, or is a new one
+pub shared_or_new : (number : ℕ) (xs : Sources) (x : Listed) (like : Option (Bor (Name × Listed)))
+    → ((names_of : ℕ → List Name) (next : ℕ) → AllByRecursion (λ source. HasNumber names_of next source.1) xs
+    → IfSome like (λ from. HasNumber names_of next from.now.1))
+    → IsSharedOrNew (option_map (λ from. from.now.1.list) like) number x.list → IsNumberedBehind xs number x
+shared_or_new number xs x None holds (inl shared) names_of each = cc
+shared_or_new number xs x (Some like) holds (inl shared) names_of each =
+    let is : like.now.1.list ≡ x.list = cc in
+    let has : HasNumber names_of number like.now.1 = holds names_of number each in
+    inl (
+      subst (λ (list : Numbered). list.names ≡ names_of list.number) is has.0,
+      subst (λ (list : Numbered). list.number < number) is has.1,
+    )
+shared_or_new number xs x like holds (inr own) names_of each = inr own
 
 -- ---- sources that changes put
 
@@ -153,23 +158,18 @@ put-push (first ∷ changes) change =
     ∙ sym (append_assoc (option_to_list first.1) (put changes) (option_to_list change.1))
 
 -- one change more
-pub numbers_more : (number : ℕ) (xs : Sources) (changes : Changes)
-    (change : Change (Name × Listed)) (like : Option (Bor (Name × Listed)))
-    → ((names_of : ℕ → List Name) (next : ℕ)
-    → AllByRecursion (λ source. HasNumber names_of next source.1) (xs ++ put changes)
-    → IfSome like (λ from. HasNumber names_of next from.now.1))
-    → IfSome change.1 (λ from. IsSharedOrNew (option_map (λ from. from.now.1.list) like) number from.1.list)
+pub numbers_more : (number : ℕ) (xs : Sources) (changes : Changes) (change : Change (Name × Listed))
+    → IfSome change.1 (λ from. IsNumberedBehind (xs ++ put changes) number from.1)
     → AreNumbered number (xs ++ put changes) → AreNumbered (number + 1) (xs ++ put (changes ++ change ∷ []))
-numbers_more number xs changes change like holds has numbered =
+numbers_more number xs changes change behind numbered =
     subst (AreNumbered (number + 1))
     (append_assoc xs (put changes) (option_to_list change.1)
-    ∙ ap (λ more. xs ++ more) (sym (put-push changes change))) (by change.1 has)
+    ∙ ap (λ more. xs ++ more) (sym (put-push changes change))) (by change.1 behind)
   where
-    by : (own : Option (Name × Listed))
-        → IfSome own (λ from. IsSharedOrNew (option_map (λ from. from.now.1.list) like) number from.1.list)
+    by : (own : Option (Name × Listed)) → IfSome own (λ from. IsNumberedBehind (xs ++ put changes) number from.1)
         → AreNumbered (number + 1) ((xs ++ put changes) ++ option_to_list own)
-    by None has = numbers_next number (xs ++ put changes) numbered
-    by (Some from) has = numbers_put number (xs ++ put changes) from like holds has numbered
+    by None behind = numbers_next number (xs ++ put changes) numbered
+    by (Some from) behind = numbers_put number (xs ++ put changes) from behind numbered
 
 module _ (P : Name × Listed → Type 0) where
   each_put : (changes : Changes) → AllByRecursion P (put changes)

@@ -14,9 +14,8 @@ use Rattle.alto_rows.proofs.OrderLemmas.{one_key}
 use Rattle.alto_rows.proofs.TouchesLemmas.{same_name_itself}
 use Rattle.alto_rows.proofs.WriteLemmas.{NoneWrites, value_of-after-none}
 use Rattle.cost_tables.specs.Renewed.{IsRenewed}
-use Rattle.cost_tables.specs.Tables.{IsSetOf, Name, Table, TellsCosts, cost_to, cost_told, costs_from, source_of}
+use Rattle.cost_tables.specs.Tables.{IsSetOf, Name, Table, TellsCosts, cost_told, source_of}
 use Rattle.cost_tables.specs.Tables.{sources_of}
-use Rattle.cost_tables.proofs.FromLemmas.{cost_to-costs_from}
 
 -- ---- sources that keys aren't of
 
@@ -66,15 +65,15 @@ none_written at (write ∷ writes) none = (none.0, none_written at writes none.1
 -- ---- tables
 
 -- a table with the sources of rows made anew tells their costs
-pub table_of_rows : (rows : Rows) (net metric : Name) (sources : List Name) (table : Table) → AreSorted rows
-    → IsSetOf sources (sources_of net metric (keys_of rows)) → IsRenewed (costs_from rows net metric) sources [] table
+pub table_of_rows : (rows : Rows) (net metric : Name) (sources : List Name) (table : Table)
+    → IsSetOf sources (sources_of net metric (keys_of rows)) → IsRenewed rows net metric sources [] table
     → TellsCosts rows net metric table
-table_of_rows rows net metric sources table sorted set made src dst =
+table_of_rows rows net metric sources table set made src dst =
     made src dst ∙ by (list_any (same_name src) sources) refl
   where
     by : (b : Bool) → list_any (same_name src) sources ≡ b
-        → cond b (cost_to (costs_from rows net metric src) dst) (cost_told [] src dst) ≡ cost_of rows net metric src dst
-    by true e = cost_to-costs_from rows net metric src dst sorted
+        → cond b (cost_of rows net metric src dst) (cost_told [] src dst) ≡ cost_of rows net metric src dst
+    by true e = refl
     by false e =
         let none : list_any (same_name src) (sources_of net metric (keys_of rows)) ≡ false = sym (set.same src) ∙ e in
         sym (ap number_at (none_given (key.Cost net metric src dst)
@@ -92,17 +91,15 @@ cost_of-unwritten before writes net metric src dst sorted none =
 
 -- a table before writes, with the sources written made anew, tells the costs after them
 pub table_after_writes : (rows before : Rows) (writes : List Write) (net metric : Name) (sources : List Name)
-    (table later : Table) → AreSorted rows
-    → IsSetOf sources (sources_of net metric (map (λ write. write.key) writes))
-    → IsRenewed (costs_from rows net metric) sources table later → AreSorted before → rows ≡ after before writes
+    (table later : Table) → IsSetOf sources (sources_of net metric (map (λ write. write.key) writes))
+    → IsRenewed rows net metric sources table later → AreSorted before → rows ≡ after before writes
     → TellsCosts before net metric table → TellsCosts rows net metric later
-table_after_writes rows before writes net metric sources table later sorted set made sorted_before is told src dst =
+table_after_writes rows before writes net metric sources table later set made sorted_before is told src dst =
     made src dst ∙ by (list_any (same_name src) sources) refl
   where
     by : (b : Bool) → list_any (same_name src) sources ≡ b
-        → cond b (cost_to (costs_from rows net metric src) dst) (cost_told table src dst)
-        ≡ cost_of rows net metric src dst
-    by true e = cost_to-costs_from rows net metric src dst sorted
+        → cond b (cost_of rows net metric src dst) (cost_told table src dst) ≡ cost_of rows net metric src dst
+    by true e = refl
     by false e = told src dst ∙ rw is
         (sym (cost_of-unwritten before writes net metric src dst sorted_before (sym (set.same src) ∙ e)))
 

@@ -38,6 +38,12 @@ pub record AreNumbered (next : ℕ) (sources : Sources) : Type 0 where
   pub names_of : ℕ → List Name
   pub each : AllByRecursion (λ source. HasNumber names_of next source.1) sources
 
+-- a list has the names of its number among sources, or that number is a new one
+abbrev pub IsNumberedBehind : Sources → ℕ → Listed → Type 0
+IsNumberedBehind sources number from = (names_of : ℕ → List Name)
+    → AllByRecursion (λ source. HasNumber names_of number source.1) sources
+    → HasNumber names_of number from ⊎ (from.list.number ≡ number)
+
 -- a list is that of another source, if there is one, or a new one with this number
 abbrev pub IsSharedOrNew : Option Numbered → ℕ → Numbered → Type 0
 IsSharedOrNew like number list = (like ≡ Some list) ⊎ (list.number ≡ number)

@@ -69,6 +69,16 @@ abbrev pub cost_given : Key × Value → Option (Name × ℕ)
 cost_given (key.Cost net metric src dst, value.Num n) = Some (dst, n)
 cost_given _ = None
 
+-- the destination of a cost of a metric from a source that a key is of
+abbrev pub destination_of : Name → Name → Name → Key → Option Name
+destination_of net metric src (key.Cost of kind from to) =
+    if same_name net of && same_name metric kind && same_name src from then Some to else None
+destination_of net metric src _ = None
+
+-- these are the costs from a source in rows
+abbrev pub HasCostsOf : Rows → Name → Name → Name → Costs → Type 0
+HasCostsOf rows net metric src costs = (dst : Name) → cost_to costs dst ≡ cost_of rows net metric src dst
+
 -- the costs from a source that rows give
 abbrev pub costs_from : Rows → Name → Name → Name → Costs
 costs_from rows net metric src = filter_map cost_given (rows_in rows (span.CostsFrom net metric src))

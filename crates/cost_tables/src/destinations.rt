@@ -1,5 +1,5 @@
 //! Destinations that sources share.
-ghost use Rattle.std.specs.Prelude.{◌≡◌, true, IfOk, OnOk, Some, slice_get};
+ghost use Rattle.std.specs.Prelude.{◌≡◌, true, IfOk, IfSome, OnOk, Some, slice_get};
 ghost use Rattle.std.specs.List.Sorted.{IsStrictlySortedBy};
 ghost use Rattle.alto_rows.specs.Order.{name_cmp};
 ghost use Rattle.cost_tables.specs.Lists.{ArePlaces, IsPlace};
@@ -62,6 +62,21 @@ impl Destinations {
         ensures { result.now ≡ self.now.names }
     {
         &self.names
+    }
+
+    /// Where a name stands, if it does. A search among numbers that lie together, and one comparison of two names,
+    /// where no other name begins with the same eight bytes; else a binary search more.
+    pub(crate) fn place_of(&self, name: &PidName) -> Option<usize>
+        ensures place { IfSome result (λ place. slice_get self.now.names place ≡ Some name.now) }
+        ensures rise { IsStrictlySortedBy name_cmp self.now.names }
+    {
+        let destination = PidText::of(name);
+        let place = self.place(&destination, 0);
+        if stands_at(&self.names, place, &destination) {
+            Some(place)
+        } else {
+            None
+        }
     }
 
     /// Finds where destinations stand, past all names where one isn't there. For each one search among numbers that lie

@@ -77,6 +77,34 @@ impl FromSource {
         })
     }
 
+    /// These costs in place of its own, which are as many.
+    pub(crate) fn with_costs(&self, costs: Numbers) -> Result<FromSource, AllocError>
+        requires { length costs ≡ length self.now.1.list.names }
+        ensures source { IfOk result (λ from. from.0 ≡ self.now.0) }
+        ensures list { IfOk result (λ from. from.1.list ≡ self.now.1.list) }
+        ensures costs { IfOk result (λ from. from.1.costs ≡ zip self.now.1.list.names costs) }
+    {
+        Ok(FromSource {
+            source: self.source.clone()?,
+            list: Arc::try_clone(&self.list)?,
+            costs,
+        })
+    }
+
+    /// The source.
+    pub(crate) fn source(&self) -> &PidName
+        ensures { result.now ≡ self.now.0 }
+    {
+        &self.source
+    }
+
+    /// The list of the destinations.
+    pub(crate) fn destinations(&self) -> &Destinations
+        ensures { result.now ≡ self.now.1.list }
+    {
+        &self.list
+    }
+
     /// The number of the list of the destinations.
     pub(crate) fn number(&self) -> u64
         ensures { result ≡ self.now.1.list.number }

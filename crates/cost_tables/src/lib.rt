@@ -15,6 +15,7 @@ mod destinations;
 mod from_source;
 mod heads;
 mod numbers;
+mod overwriting;
 mod pid_text;
 mod places;
 mod sources;

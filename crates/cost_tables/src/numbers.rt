@@ -1,5 +1,6 @@
 //! Numbers in as few bytes as they fit.
-ghost use Rattle.std.specs.Prelude.{◌≡◌, ◌++◌, IfOk, IfSome, OnOk, length, map, nat_eq, slice_get};
+ghost use Rattle.std.specs.Prelude.{◌≡◌, ◌++◌, IfOk, IfSome, OnOk, true, length, map, nat_eq, slice_get};
+ghost use Rattle.std.specs.Prelude.{slice_set};
 
 use std::alloc::{AllocError, Global};
 use std::marker::Model;
@@ -37,6 +38,28 @@ impl Numbers {
             None => Ok(Numbers {
                 kept: Kept::Wide(numbers),
             }),
+        }
+    }
+
+    /// The same once more. Copies their bytes.
+    pub(crate) fn copied(&self, alloc: Global) -> Result<Numbers, AllocError>
+        ensures { IfOk result (λ numbers. numbers ≡ self.now) }
+    {
+        let kept = match &self.kept {
+            Kept::Narrow(numbers) => Kept::Narrow(copy_of(alloc, numbers)?),
+            Kept::Wide(numbers) => Kept::Wide(copy_of(alloc, numbers)?),
+        };
+        Ok(Numbers { kept })
+    }
+
+    /// Puts a number in place of another, and tells whether there is one and this one fits where it stood.
+    pub(crate) fn set(&mut self, place: usize, number: u64) -> bool
+        ensures set { result ≡ true → self.new ≡ slice_set self.old place number }
+        ensures even { length self.new ≡ length self.old }
+    {
+        match &mut self.kept {
+            Kept::Narrow(numbers) => set_narrow(numbers, place, number),
+            Kept::Wide(numbers) => set_wide(numbers, place, number),
         }
     }
 
@@ -78,6 +101,39 @@ fn narrowed(alloc: Global, numbers: &[u64]) -> Result<Option<Vec<u32>>, AllocErr
         narrow.push(number)?;
     }
     Ok(Some(narrow))
+}
+
+fn copy_of<T: Copy>(alloc: Global, numbers: &[T]) -> Result<Vec<T>, AllocError>
+    ensures { IfOk result (λ copy. copy.items ≡ numbers.now) }
+{
+    let mut copy = Vec::with_capacity(alloc, numbers.len())?;
+    copy.extend_from_slice(numbers)?;
+    Ok(copy)
+}
+
+fn set_narrow(numbers: &mut [u32], place: usize, number: u64) -> bool
+    ensures set { result ≡ true → numbers.new ≡ slice_set numbers.old place number }
+    ensures even { length numbers.new ≡ length numbers.old }
+{
+    let Ok(number) = u32::try_from(number) else {
+        return false;
+    };
+    if place >= numbers.len() {
+        return false;
+    }
+    numbers[place] = number;
+    true
+}
+
+fn set_wide(numbers: &mut [u64], place: usize, number: u64) -> bool
+    ensures set { result ≡ true → numbers.new ≡ slice_set numbers.old place number }
+    ensures even { length numbers.new ≡ length numbers.old }
+{
+    if place >= numbers.len() {
+        return false;
+    }
+    numbers[place] = number;
+    true
 }
 
 fn push_narrow(

@@ -8,9 +8,9 @@ ghost use Rattle.std.specs.Map.{lookup};
 ghost use Rattle.alto_rows.specs.Order.{name_cmp};
 ghost use Rattle.alto_rows.specs.Rows.{AreSorted, Rows};
 ghost use Rattle.alto_rows.specs.Rows as spec;
-ghost use Rattle.cost_tables.specs.Lists.{HasNumber, HaveNumbers, IsSharedOrNew, table_of};
-ghost use Rattle.cost_tables.specs.Renewed.{IsRenewed, costs_in, put};
-ghost use Rattle.cost_tables.specs.Tables.{Name, TellsCosts, costs_from};
+ghost use Rattle.cost_tables.specs.Lists.{HasNumber, HaveNumbers, IsNumberedBehind, IsSharedOrNew, table_of};
+ghost use Rattle.cost_tables.specs.Renewed.{CameFrom, IsRenewed, costs_in, put};
+ghost use Rattle.cost_tables.specs.Tables.{HasCostsOf, Name, TellsCosts, costs_from};
 
 use crate::from_source::FromSource;
 use crate::pid_text::PidText;
@@ -57,11 +57,13 @@ impl Table {
             sources: SharedList::new(alloc),
             next: 0,
         };
-        none.renewed(alloc, rows, net, metric, &sources)
+        none.renewed(alloc, rows, net, metric, &sources, &[])
     }
 
     /// The costs after writes that led to these rows, where there was this table before. A look at each write and at
-    /// each run of sources, and a search and a walk for each source of which a cost was written. All others are shared.
+    /// each run of sources. For each source of which a cost was written a copy of its costs and a look at each write,
+    /// where these only write over costs and are no more than the source has; else a search and a walk over its rows.
+    /// All others are shared.
     pub(crate) fn after<R: RowStore>(
         table: &Arc<Table>,
         alloc: Global,
@@ -80,7 +82,10 @@ impl Table {
         if sources.is_empty() {
             return Arc::try_clone(table);
         }
-        Ok(Arc::new(alloc, table.renewed(alloc, rows, net, metric, &sources)?)?)
+        Ok(Arc::new(
+            alloc,
+            table.renewed(alloc, rows, net, metric, &sources, writes)?,
+        )?)
     }
 
     /// The costs from a source, if it has any. Two searches among numbers that lie together, and one comparison of two
@@ -92,7 +97,8 @@ impl Table {
         self.sources.find(source.as_bytes())
     }
 
-    /// The table with the costs from sources, which stand in byte order, made anew from rows.
+    /// The table after writes that led to these rows, with the costs from sources, which stand in byte order, made
+    /// anew.
     fn renewed<R: RowStore>(
         &self,
         alloc: Global,
@@ -100,17 +106,18 @@ impl Table {
         net: &NetName,
         metric: &Metric,
         sources: &[PidName],
+        writes: &[Write],
     ) -> Result<Table, AllocError>
         requires sorted { AreSorted (R.rows rows.now) }
         requires rise { IsStrictlySortedBy name_cmp sources.now }
-        ensures { IfOk result (λ table. IsRenewed (costs_from (R.rows rows.now) net.now metric.now) sources.now
-            (table_of self.now) (table_of table)) }
+        ensures { IfOk result (λ table. (before : Rows)
+            → CameFrom net.now metric.now self.now writes.now (R.rows rows.now) before
+            → IsRenewed (R.rows rows.now) net.now metric.now sources.now (table_of self.now) (table_of table)) }
     {
         let mut changes = Vec::with_capacity(alloc, sources.len())?;
         let mut next = self.next;
         for source in sources {
-            let like = self.like(count_from(rows, net, metric, source)?, source, &changes);
-            let change = change_of(alloc, rows, net, metric, source, like, next)?;
+            let change = self.change_of(alloc, rows, net, metric, source, writes, &changes, next)?;
             changes.push(change)?;
             next = following(next)?;
         }
@@ -118,6 +125,58 @@ impl Table {
             sources: self.sources.changed(alloc, changes)?,
             next,
         })
+    }
+
+    /// A source with its costs after writes that led to these rows, behind changes, if it has any then. A new list of
+    /// its destinations gets this number.
+    fn change_of<'a, R: RowStore>(
+        &self,
+        alloc: Global,
+        rows: &R,
+        net: &NetName,
+        metric: &Metric,
+        source: &'a PidName,
+        writes: &[Write],
+        changes: &[Change<'_, FromSource>],
+        number: u64,
+    ) -> Result<Change<'a, FromSource>, AllocError>
+        requires { AreSorted (R.rows rows.now) }
+        ensures source { IfOk result (λ change. change.0 ≡ source.now) }
+        ensures named { IfOk result (λ change. IfSome change.1 (λ from. from.0 ≡ source.now)) }
+        ensures costs { IfOk result (λ change. (before : Rows)
+            → CameFrom net.now metric.now self.now writes.now (R.rows rows.now) before
+            → HasCostsOf (R.rows rows.now) net.now metric.now source.now (costs_in change.1)) }
+        ensures list { IfOk result (λ change. IfSome change.1 (λ from.
+            IsNumberedBehind (self.now ++ put changes.now) number from.1)) }
+    {
+        if let Some(from) = self.overwritten(alloc, net, metric, source, writes)? {
+            return Ok(Change::new(source.as_bytes(), Some(from)));
+        }
+        let like = self.like(count_from(rows, net, metric, source)?, source, changes);
+        change_read(alloc, rows, net, metric, source, like, number)
+    }
+
+    /// The costs from a source after writes, if these write over some that it has, and do no more to it. Takes no
+    /// longer than to read them from rows.
+    fn overwritten(
+        &self,
+        alloc: Global,
+        net: &NetName,
+        metric: &Metric,
+        source: &PidName,
+        writes: &[Write],
+    ) -> Result<Option<FromSource>, AllocError>
+        ensures source { IfOk result (λ found. IfSome found (λ from. from.0 ≡ source.now)) }
+        ensures list { IfOk result (λ found. IfSome found (λ from. (names_of : ℕ → List Name) → (next : ℕ)
+            → AllByRecursion (λ from. HasNumber names_of next from.1) self.now → HasNumber names_of next from.1)) }
+        ensures costs { IfOk result (λ found. IfSome found (λ from. (rows before : Rows)
+            → CameFrom net.now metric.now self.now writes.now rows before
+            → HasCostsOf rows net.now metric.now source.now from.1.costs)) }
+    {
+        match self.sources.find(source.as_bytes()) {
+            Some(own) if writes.len() <= own.count() => own.overwritten(alloc, net, metric, writes),
+            _ => Ok(None),
+        }
     }
 
     /// A source that may have the same destinations as one that is made anew behind changes, with so many costs: that
@@ -156,7 +215,7 @@ fn count_from<R: RowStore>(
 }
 
 /// A source with the costs that rows give, if there are any. A new list of its destinations gets this number.
-fn change_of<'a, R: RowStore>(
+fn change_read<'a, R: RowStore>(
     alloc: Global,
     rows: &R,
     net: &NetName,

@@ -74,9 +74,10 @@ impl CostTables {
     }
 
     /// The costs after writes that led to rows which declare these resources. Costs a look at each write for each
-    /// metric, a walk over the sources for each metric of which a cost was written, and a search, a walk over its rows
-    /// and a comparison of its destinations' names with those of a source beside it for each source of which one was
-    /// written. The costs from all other sources are shared.
+    /// metric, and a walk over the sources for each metric of which a cost was written. For each source of which one
+    /// was written it costs a copy of its costs and a look at each write, where these only write over costs and are no
+    /// more than the source has; else a search, a walk over its rows, and a comparison of its destinations' names with
+    /// those of a source beside it. The costs from all other sources are shared.
     pub fn after<R: RowStore>(
         &self,
         alloc: Global,

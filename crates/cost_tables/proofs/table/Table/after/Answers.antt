@@ -6,7 +6,8 @@ use Rattle.std.specs.declared.sync.Arc.{Arc}
 use Rattle.alto_rows.specs.Rows.{AreSorted, Rows, after}
 use Rattle.cost_tables.specs.Lists.{Sources, table_of}
 use Rattle.cost_tables.specs.Renewed.{IsRenewed}
-use Rattle.cost_tables.specs.Tables.{IsSetOf, TellsCosts, costs_from, sources_of}
+use Rattle.cost_tables.specs.Tables.{IsSetOf, TellsCosts, sources_of}
+use Rattle.cost_tables.proofs.RenewedLemmas.{from_told}
 use Rattle.cost_tables.proofs.TableLemmas.{table_after_writes, table_unwritten}
 use Rattle.cost_tables.proofs.table.Table.after.Goals as goal
 
@@ -40,7 +41,9 @@ returns g c before sorted is told =
     let set : IsSetOf sources (sources_of net metric (map (λ write. write.key) c.args.writes.now)) =
     rw c.deref-2.ensures.value c.in_ok-sources.ensures in
     let later = arc_value c.in_ok-new.field-0 in
-    let made : IsRenewed (costs_from rows net metric) sources (table_of table) (table_of later) =
-    rw (c.in_ok-new.ensures.ok, ← c.deref.ensures) c.in_ok-renewed.ensures in
+    let made : IsRenewed rows net metric sources (table_of table) (table_of later) =
+    rw (c.in_ok-new.ensures.ok, ← c.deref.ensures)
+    (c.in_ok-renewed.ensures before
+    (from_told net metric _ c.args.writes.now rows before sorted is (rw c.deref.ensures told))) in
     table_after_writes rows before c.args.writes.now net metric sources (table_of table)
-    (table_of later) c.requires set made sorted is told
+    (table_of later) set made sorted is told

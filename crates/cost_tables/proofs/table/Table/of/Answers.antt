@@ -4,8 +4,9 @@ use Rattle.std.proofs.lemmas.Result.{IfOk-weaker}
 use Rattle.std.specs.Map.{keys_of}
 use Rattle.cost_tables.specs.Lists.{table_of}
 use Rattle.cost_tables.specs.Renewed.{IsRenewed}
-use Rattle.cost_tables.specs.Tables.{IsSetOf, Table, costs_from, sources_of}
+use Rattle.cost_tables.specs.Tables.{IsSetOf, Table, sources_of}
 use Rattle.cost_tables.proofs.ListLemmas.{none_numbered}
+use Rattle.cost_tables.proofs.RenewedLemmas.{from_none}
 use Rattle.cost_tables.proofs.TableLemmas.{table_of_rows}
 use Rattle.cost_tables.proofs.table.Table.of.Goals as goal
 
@@ -17,10 +18,11 @@ returns g c =
     let rows = g.R.RowStore.rows c.args.rows.now in
     let net = c.args.net.now in
     let metric = c.args.metric.now in
-    let set : IsSetOf c.deref.result.now (sources_of net metric (keys_of rows)) =
+    let sources = c.deref.result.now in
+    let set : IsSetOf sources (sources_of net metric (keys_of rows)) =
     rw c.deref.ensures.value c.in_ok-sources.ensures in
     IfOk-weaker c.renewed.result _ _
     (λ table made.
-    table_of_rows rows net metric c.deref.result.now (table_of table) c.requires set
-    (subst (λ (before : Table). IsRenewed (costs_from rows net metric) c.deref.result.now before (table_of table))
-    (ap table_of c.new.ensures) made)) c.renewed.ensures
+    table_of_rows rows net metric sources (table_of table) set
+    (subst (λ (before : Table). IsRenewed rows net metric sources before (table_of table)) (ap table_of c.new.ensures)
+    (made rows (from_none net metric _ rows c.requires c.new.ensures)))) c.renewed.ensures
