@@ -19,18 +19,19 @@ pub(crate) fn touched_names(alloc: Global, places: &[Place]) -> Result<Vec<Name>
     names.into_iter().collect(alloc)
 }
 
-/// One place more.
+/// One place more. One comparison where its group is the last in order.
 fn add(names: &mut BTreeSet<Name>, place: &Place) -> Result<(), AllocError>
     ensures { OnOk result ((places : List Place) → names.old.keys ≡ spec.touched_groups places
         → names.new.keys ≡ spec.touched_groups (places ++ place.now ∷ [])) }
 {
-    match group_of(place) {
-        Some(group) => {
-            names.insert(group.clone()?)?;
-            Ok(())
-        }
-        None => Ok(()),
+    let Some(group) = group_of(place) else {
+        return Ok(());
+    };
+    if names.last() == Some(group) {
+        return Ok(());
     }
+    names.insert(group.clone()?)?;
+    Ok(())
 }
 
 /// The group that a place is in.
