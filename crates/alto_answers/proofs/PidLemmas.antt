@@ -9,8 +9,8 @@ use Rattle.json_tree.specs.Document.{with_member}
 use Rattle.serde_json.specs.Written.{compact_text}
 use Rattle.alto_names.specs.Name.{is_pid_byte, named, unless_bad}
 use Rattle.alto_names.specs.declared.label.NameFault.{NameFault}
-use Rattle.cost_filters.specs.Text.{is_plain}
-use Rattle.cost_filters.proofs.PlainLemmas.{plain_text}
+use Rattle.doc_pieces.specs.Text.{is_plain}
+use Rattle.doc_pieces.proofs.PlainLemmas.{plain_text}
 use Rattle.alto_answers.specs.Lookup.{pid_document}
 
 plain_pid_byte : (byte : ℕ) → is_pid_byte byte ≡ true → is_plain byte ≡ true

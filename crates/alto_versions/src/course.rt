@@ -105,9 +105,9 @@ impl<R: RowStore> Course<R> {
     {
         let Course { n, rows, graphs } = self;
         let tables = tables_of(alloc, &*rows)?;
-        let texts = texts_of(alloc, &*rows)?;
         let resources = resources_of(alloc, &*rows)?;
         let costs = CostTables::of(alloc, &*rows, &resources)?;
+        let texts = texts_of(alloc, &*rows, &costs)?;
         Ok(Front {
             n,
             rows,

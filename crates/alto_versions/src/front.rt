@@ -135,7 +135,8 @@ impl<R: RowStore> Front<R> {
         let resources = resources_of(alloc, &*rows)?;
         let of_texts = copies_of(alloc, &resources)?;
         let of_graphs = copies_of(alloc, &resources)?;
-        let renewed = texts_after(alloc, &self.texts, &*rows, of_texts, &batch.writes)?;
+        let costs = self.costs.after(alloc, &*rows, &resources, &batch.writes)?;
+        let renewed = texts_after(alloc, &self.texts, &*rows, &costs, of_texts, &batch.writes)?;
         let TextsWithKeys { texts, keys } = renewed;
         let graphs = graphs_after(
             alloc,
@@ -147,7 +148,6 @@ impl<R: RowStore> Front<R> {
             keys,
         )?;
         let tables = tables_after(alloc, &self.tables, &*rows, &batch.writes)?;
-        let costs = self.costs.after(alloc, &*rows, &resources, &batch.writes)?;
         Ok(Front {
             n: self.n + 1,
             rows,

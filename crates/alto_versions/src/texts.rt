@@ -7,6 +7,7 @@ ghost use Rattle.alto_rows.specs.Rows.{Rows};
 ghost use Rattle.alto_rows.specs.Rows as spec;
 ghost use Rattle.alto_rows.specs.Versions.{is_declared, resources_of as declared_resources};
 ghost use Rattle.alto_book.specs.Numbers.{touching as spec_touching};
+ghost use Rattle.cost_tables.specs.Tables.{AreCostsOf};
 ghost use Rattle.alto_versions.specs.Graphs.{AreTouching, entries};
 ghost use Rattle.alto_versions.specs.Texts as made;
 ghost use Rattle.alto_versions.specs.Texts.{AreTextsOf, IsTextOf, map_pieces, text_in};
@@ -15,7 +16,8 @@ ghost use Rattle.net_docs.specs.Differ.{DifferBy};
 use crate::graphs::{is_same, touching};
 use crate::resources::resources_of;
 use alto_rows::{Key, Resource, RowStore, Write};
-use cost_docs::{CostMap, cost_places};
+use cost_docs::{CostGroups, CostMap, cost_places};
+use cost_tables::CostTables;
 use doc_pieces::Pieces;
 use net_docs::{NetMap, net_places};
 use prop_docs::{PropMap, prop_places};
@@ -31,9 +33,9 @@ pub(crate) struct TextsWithKeys {
     pub(crate) keys: Vec<Vec<Key>>,
 }
 
-/// The texts of the documents after a batch with these writes, which led to these rows: one for each declared resource,
-/// which these are. The groups that the batch left are shared. The keys that touch each resource are found and copied
-/// once, and handed on.
+/// The texts of the documents after a batch with these writes, which led to these rows and costs: one for each declared
+/// resource, which these are. The groups that the batch left are shared. The keys that touch each resource are found
+/// and copied once, and handed on.
 ///
 /// Costs a look at each text and at each write for each resource, and for each that the batch touched one walk over its
 /// groups and the writing of those that the batch touched.
@@ -41,10 +43,12 @@ pub(crate) fn texts_after<R: RowStore>(
     alloc: Global,
     texts: &[(Resource, Arc<Pieces>)],
     rows: &R,
+    costs: &CostTables,
     resources: Vec<Resource>,
     writes: &[Write],
 ) -> Result<TextsWithKeys, AllocError>
     requires good { AreGood (R.rows rows.now) }
+    requires costs { AreCostsOf (R.rows rows.now) costs.now }
     requires resources { resources.items ≡ declared_resources (R.rows rows.now) }
     ensures texts { IfOk result (λ after. (before : Rows) → R.rows rows.now ≡ spec.after before writes.now
         → AreTextsOf before (entries texts.now) → AreTextsOf (R.rows rows.now) (entries after.texts.items)) }
@@ -55,7 +59,8 @@ pub(crate) fn texts_after<R: RowStore>(
     let mut found = Vec::new(alloc);
     for of in resources {
         let keys = touching(alloc, &of, writes)?;
-        let text = text_after(alloc, text_of(texts, &of), &of, rows, writes, &keys)?;
+        let before = text_of(texts, &of);
+        let text = text_after(alloc, before, &of, rows, costs, writes, &keys)?;
         after.push((of, text))?;
         found.push(keys)?;
     }
@@ -65,19 +70,21 @@ pub(crate) fn texts_after<R: RowStore>(
     })
 }
 
-/// The texts of the documents of the rows: one for each declared resource.
+/// The texts of the documents of the rows, which have these costs: one for each declared resource.
 ///
 /// Costs a walk over the rows of the networks and metrics, and the writing of each map.
 pub(crate) fn texts_of<R: RowStore>(
     alloc: Global,
     rows: &R,
+    costs: &CostTables,
 ) -> Result<Vec<(Resource, Arc<Pieces>)>, AllocError>
-    requires { AreGood (R.rows rows.now) }
+    requires good { AreGood (R.rows rows.now) }
+    requires costs { AreCostsOf (R.rows rows.now) costs.now }
     ensures { IfOk result (λ texts. AreTextsOf (R.rows rows.now) (entries texts.items)) }
 {
     let mut texts = Vec::new(alloc);
     for of in resources_of(alloc, rows)? {
-        let text = written(alloc, rows, &of)?;
+        let text = written(alloc, rows, costs, &of)?;
         texts.push((of, text))?;
     }
     Ok(texts)
@@ -105,10 +112,12 @@ fn text_after<R: RowStore>(
     text: Option<&Arc<Pieces>>,
     of: &Resource,
     rows: &R,
+    costs: &CostTables,
     writes: &[Write],
     keys: &[Key],
 ) -> Result<Arc<Pieces>, AllocError>
     requires good { AreGood (R.rows rows.now) }
+    requires costs { AreCostsOf (R.rows rows.now) costs.now }
     requires declared { is_declared (R.rows rows.now) of.now ≡ true }
     requires keys { keys.now ≡ spec_touching of.now writes.now }
     ensures { IfOk result (λ after. (before : Rows) → R.rows rows.now ≡ spec.after before writes.now
@@ -116,12 +125,12 @@ fn text_after<R: RowStore>(
         → arc_value after ≡ map_pieces (R.rows rows.now) of.now) }
 {
     let Some(text) = text else {
-        return written(alloc, rows, of);
+        return written(alloc, rows, costs, of);
     };
     if writes_epoch(writes) {
-        return written(alloc, rows, of);
+        return written(alloc, rows, costs, of);
     }
-    text_at(alloc, text, of, rows, keys)
+    text_at(alloc, text, of, rows, costs, keys)
 }
 
 /// The text of a resource's document at rows that differ by keys alone from those that this is the text at: the same
@@ -131,16 +140,18 @@ fn text_at<R: RowStore>(
     text: &Arc<Pieces>,
     of: &Resource,
     rows: &R,
+    costs: &CostTables,
     keys: &[Key],
 ) -> Result<Arc<Pieces>, AllocError>
-    requires { AreGood (R.rows rows.now) }
+    requires good { AreGood (R.rows rows.now) }
+    requires costs { AreCostsOf (R.rows rows.now) costs.now }
     ensures { IfOk result (λ after. (before : Rows) → DifferBy keys.now before (R.rows rows.now) of.now
         → arc_value text.now ≡ map_pieces before of.now → arc_value after ≡ map_pieces (R.rows rows.now) of.now) }
 {
     if keys.is_empty() {
         return Arc::try_clone(text);
     }
-    Ok(Arc::new(alloc, renewed(alloc, text, of, rows, keys)?)?)
+    Ok(Arc::new(alloc, renewed(alloc, text, of, rows, costs, keys)?)?)
 }
 
 /// The pieces of a resource's map at rows that differ by these keys alone from those that these are the pieces at.
@@ -149,46 +160,74 @@ fn renewed<R: RowStore>(
     text: &Pieces,
     of: &Resource,
     rows: &R,
+    costs: &CostTables,
     keys: &[Key],
 ) -> Result<Pieces, AllocError>
-    requires { AreGood (R.rows rows.now) }
+    requires good { AreGood (R.rows rows.now) }
+    requires costs { AreCostsOf (R.rows rows.now) costs.now }
     ensures { IfOk result (λ after. (before : Rows) → DifferBy keys.now before (R.rows rows.now) of.now
         → text.now ≡ map_pieces before of.now → after ≡ map_pieces (R.rows rows.now) of.now) }
 {
     match of {
         Resource::Net(net) => {
             let places = net_places(alloc, net, keys)?;
-            text.renewed(alloc, &NetMap::new(rows, net), &places)
+            let map = NetMap::new(rows, net);
+            text.renewed(alloc, &map, &map, &places)
         }
         Resource::Cost(net, metric) => {
             let places = cost_places(alloc, net, metric, keys)?;
-            text.renewed(alloc, &CostMap::new(rows, net, metric), &places)
+            let map = CostMap::new(rows, net, metric);
+            let groups = CostGroups::new(rows, net, metric, costs);
+            text.renewed(alloc, &map, &groups, &places)
         }
         Resource::Prop(net) => {
             let places = prop_places(alloc, net, keys)?;
-            text.renewed(alloc, &PropMap::new(rows, net), &places)
+            let map = PropMap::new(rows, net);
+            text.renewed(alloc, &map, &map, &places)
         }
     }
 }
 
 /// The text of a resource's document in these rows.
-fn written<R: RowStore>(alloc: Global, rows: &R, of: &Resource) -> Result<Arc<Pieces>, AllocError>
-    requires { AreGood (R.rows rows.now) }
+fn written<R: RowStore>(
+    alloc: Global,
+    rows: &R,
+    costs: &CostTables,
+    of: &Resource,
+) -> Result<Arc<Pieces>, AllocError>
+    requires good { AreGood (R.rows rows.now) }
+    requires costs { AreCostsOf (R.rows rows.now) costs.now }
     ensures { IfOk result (λ text. arc_value text ≡ map_pieces (R.rows rows.now) of.now) }
 {
-    Ok(Arc::new(alloc, pieces(alloc, rows, of)?)?)
+    Ok(Arc::new(alloc, pieces(alloc, rows, costs, of)?)?)
 }
 
 /// The pieces of a resource's map in these rows.
 #[tactic(auto, unfolding(crate::specs::Texts::map_pieces))]
-fn pieces<R: RowStore>(alloc: Global, rows: &R, of: &Resource) -> Result<Pieces, AllocError>
-    requires { AreGood (R.rows rows.now) }
+fn pieces<R: RowStore>(
+    alloc: Global,
+    rows: &R,
+    costs: &CostTables,
+    of: &Resource,
+) -> Result<Pieces, AllocError>
+    requires good { AreGood (R.rows rows.now) }
+    requires costs { AreCostsOf (R.rows rows.now) costs.now }
     ensures { IfOk result (λ pieces. pieces ≡ map_pieces (R.rows rows.now) of.now) }
 {
     match of {
-        Resource::Net(net) => Pieces::of(alloc, &NetMap::new(rows, net)),
-        Resource::Cost(net, metric) => Pieces::of(alloc, &CostMap::new(rows, net, metric)),
-        Resource::Prop(net) => Pieces::of(alloc, &PropMap::new(rows, net)),
+        Resource::Net(net) => {
+            let map = NetMap::new(rows, net);
+            Pieces::of(alloc, &map, &map)
+        }
+        Resource::Cost(net, metric) => {
+            let map = CostMap::new(rows, net, metric);
+            let groups = CostGroups::new(rows, net, metric, costs);
+            Pieces::of(alloc, &map, &groups)
+        }
+        Resource::Prop(net) => {
+            let map = PropMap::new(rows, net);
+            Pieces::of(alloc, &map, &map)
+        }
     }
 }
 

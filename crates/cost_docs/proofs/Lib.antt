@@ -7,3 +7,4 @@ pub mod NameLemmas
 pub mod WritingLemmas
 pub mod RankLemmas
 pub mod SourceLemmas
+pub mod KeptLemmas

@@ -107,7 +107,7 @@ any_listed test [] some = cc
 any_listed test (name ∷ names) some = refl
 
 -- a pair's row holds a number
-a_number : (net metric src dst : Name) (v : Value) → Takes (key.Cost net metric src dst) v
+pub a_number : (net metric src dst : Name) (v : Value) → Takes (key.Cost net metric src dst) v
     → Some (number_data (number_at (Some v))) ≡ option_map (λ n. number (unsigned n)) (number_at (Some v))
 a_number net metric src dst (value.Num n) takes = refl
 a_number net metric src dst value.Unit takes = absurd takes

@@ -12,7 +12,7 @@ use Rattle.alto_maps.specs.Shape.{Name, same_name}
 use Rattle.alto_maps.specs.Writing.{AddsMembers}
 use Rattle.cost_docs.specs.declared.costs.Cost.{Cost}
 use Rattle.cost_docs.specs.Costs.{costs_within}
-use Rattle.cost_docs.specs.Writing.{AddsTokens, cost_tokens, groups_of, members_from, members_given, tokens_left}
+use Rattle.cost_docs.specs.Writing.{AddsTokens, cost_tokens, groups_of, tokens_left}
 use Rattle.cost_docs.proofs.GatheredLemmas.{Gathered, as_members, gathered, groups_gathered, members_listed, with_cost}
 
 -- groups as members, and their end
@@ -77,18 +77,5 @@ all_written net metric rows costs old new good are added =
           (costs_make None costs
           ∙ ap (λ ms. members_tokens (members_outline ms))
           (ap (λ all. as_members (gathered all)) are ∙ sym (groups_gathered net metric rows good))));
-      before = added.before;
-    }
-
--- and what costs from a source are written as, are the members of its group
-pub members_written : (net metric : Name) (rows : Rows) (src : Name) (costs : List Cost) (old new : Written)
-    → AreGood rows → costs ≡ costs_within rows (span.CostsFrom net metric src)
-    → AddsMembers (members_given costs) old new → AddsMembers (members_from rows net metric src) old new
-members_written net metric rows src costs old new good are added =
-    record {
-      tokens =
-          added.tokens
-          ∙ ap (λ ms. old.tokens ++ members_tokens (members_outline ms))
-          (ap members_given are ∙ sym (members_listed net metric rows src good));
       before = added.before;
     }

@@ -3,3 +3,4 @@ pub mod Ordinal
 pub mod Costs
 pub mod Writing
 pub mod Laws
+pub mod Kept

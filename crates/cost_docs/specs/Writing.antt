@@ -4,7 +4,6 @@ use Rattle.json.specs.Token.{Token, key, number, begin_object, end_object}
 use Rattle.json.specs.Written.{Written}
 use Rattle.serde_json.specs.Data.{Members}
 use Rattle.json_tree.specs.Document.{members_of}
-use Rattle.json_tree.specs.Tree.{members_in_order}
 use Rattle.alto_rows.specs.Order.{same_name}
 use Rattle.alto_rows.specs.Rows.{Rows}
 use Rattle.alto_maps.specs.Shape.{Name, group_object}
@@ -66,11 +65,6 @@ names_left current (c ∷ costs) = name_begun current (Some c) ++ names_left (So
 abbrev pub member_tokens : Option Cost → List Token
 member_tokens None = []
 member_tokens (Some cost) = key cost.destination ∷ number (decimal cost.amount) ∷ []
-
--- costs as members of one group
-abbrev pub members_given : List Cost → Members
-members_given costs =
-    members_in_order (map (λ (cost : Cost). (cost.destination, number_data (Some cost.amount))) costs)
 
 -- the members of the group of a source
 abbrev pub members_from : Rows → Name → Name → Name → Members

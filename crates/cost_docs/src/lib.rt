@@ -10,6 +10,7 @@
 mod costs;
 mod document;
 mod groups;
+mod kept;
 mod laws;
 mod meta;
 mod names;
@@ -19,6 +20,7 @@ mod source;
 mod writing;
 
 pub use document::{cost_doc, cost_text, ordinal_doc};
+pub use kept::CostGroups;
 pub use laws::cost_maps_differ_at_places;
 pub use places::cost_places;
 pub use ranks::Ranks;

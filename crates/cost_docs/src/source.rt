@@ -3,6 +3,7 @@ ghost use Rattle.serde_json.specs.Data.{unsigned};
 ghost use Rattle.serde_json.specs.Data as json;
 ghost use Rattle.json_tree.specs.Tree.{data_of};
 ghost use Rattle.alto_names.specs.Name.{IsPidName};
+ghost use Rattle.alto_maps.specs.Places.{set_of};
 ghost use Rattle.alto_maps.specs.Shape.{stands};
 ghost use Rattle.alto_rows.specs.Costs.{cost_of, number_at};
 ghost use Rattle.alto_rows.specs.Good.{AreGood};
@@ -14,11 +15,10 @@ ghost use Rattle.cost_docs.specs.Costs.{has_rows};
 use crate::groups::{group, groups};
 use crate::meta::{meta, write_meta};
 use crate::names::group_names;
-use crate::writing::{write_group, write_groups};
+use crate::writing::write_groups;
 use alto_maps::{MapSource, Walked};
 use alto_names::{Metric, NameFault, NetName, PidName};
 use alto_rows::{Key, RowStore, Span, Value, rows_in};
-use doc_pieces::Grouped;
 use json::Writer;
 use json_tree::{Name, Tree};
 use net_docs::dependent_tags;
@@ -53,6 +53,13 @@ impl<'a, R: RowStore> CostMap<'a, R> {
         ensures { result ≡ (R.rows rows.now, net.now, metric.now) }
     {
         CostMap { rows, net, metric }
+    }
+
+    /// The names of the groups, in byte order. One walk over the rows of the metric.
+    pub(crate) fn group_names(&self, alloc: Global) -> Result<Vec<Name>, AllocError>
+        ensures { IfOk result (λ names. names.items ≡ set_of (spec.cost_face self.now.1 self.now.2 self.now.0).groups) }
+    {
+        group_names(alloc, self.rows, self.net, self.metric)
     }
 }
 
@@ -115,21 +122,8 @@ impl<'a, R: RowStore> Walked for CostMap<'a, R> {
     }
 }
 
-impl<'a, R: RowStore> Grouped for CostMap<'a, R> {
-    fn group_names(&self, alloc: Global) -> Result<Vec<Name>, AllocError> {
-        group_names(alloc, self.rows, self.net, self.metric)
-    }
-
-    fn write_group(&self, alloc: Global, name: &Name, out: &mut Writer) -> Result<(), AllocError> {
-        match read_pid(alloc, name)? {
-            Some(source) => write_group(self.rows, self.net, self.metric, &source, out),
-            None => unreachable!(),
-        }
-    }
-}
-
 /// The PID of this name, `None` exactly where no PID can have it.
-fn read_pid(alloc: Global, name: &Name) -> Result<Option<PidName>, AllocError>
+pub(crate) fn read_pid(alloc: Global, name: &Name) -> Result<Option<PidName>, AllocError>
     ensures { IfOk result (λ found. MatchOption found (¬ (IsPidName name.now)) (λ pid. pid ≡ name.now)) }
 {
     match PidName::read(alloc, name.as_str().as_bytes()) {

@@ -3,13 +3,12 @@ ghost use Rattle.std.specs.Prelude.{◌≡◌, [], ◌∷◌, ◌++◌, Some, No
 ghost use Rattle.std.specs.List.{filter_map};
 ghost use Rattle.json.specs.Token.{key, number};
 ghost use Rattle.alto_rows.specs.Good.{AreGood};
-ghost use Rattle.alto_maps.specs.Shape.{group_object, section_object};
-ghost use Rattle.alto_maps.specs.Writing.{AddsMember, AddsMembers, AddsValue};
+ghost use Rattle.alto_maps.specs.Shape.{section_object};
+ghost use Rattle.alto_maps.specs.Writing.{AddsMembers, AddsValue};
 ghost use Rattle.cost_docs.specs.CostMap.{cost_face};
 ghost use Rattle.cost_docs.specs.Costs.{cost_given};
 ghost use Rattle.cost_docs.specs.Writing.{AddsTokens, cost_tokens, end_tokens, groups_of, turn_tokens};
-ghost use Rattle.cost_docs.specs.Writing.{current_behind, is_current, member_tokens, members_from, members_given};
-ghost use Rattle.cost_docs.specs.Writing.{tokens_left};
+ghost use Rattle.cost_docs.specs.Writing.{current_behind, is_current, tokens_left};
 
 use alto_names::{Metric, NetName, PidName};
 use alto_rows::{Key, RowStore, Span, Value, Within, rows_in};
@@ -59,63 +58,6 @@ fn write_costs<R: RowStore>(costs: &mut Within<R>, out: &mut Writer) -> Result<(
         write_row(row, &mut current, out)?;
     }
     end_group(&current, out)
-}
-
-/// Writes the group of a source with its name. One search and one walk over its rows.
-pub(crate) fn write_group<R: RowStore>(
-    rows: &R,
-    net: &NetName,
-    metric: &Metric,
-    source: &PidName,
-    out: &mut Writer,
-) -> Result<(), AllocError>
-    requires { AreGood (R.rows rows.now) }
-    ensures { OnOk result (AddsMember source.now
-        (group_object (cost_face net.now metric.now (R.rows rows.now)) source.now) out.old out.new) }
-{
-    out.key(source.as_str())?;
-    out.begin_object()?;
-    write_members(rows, net, metric, source, out)?;
-    out.end_object()
-}
-
-/// Writes the costs of a source as members.
-fn write_members<R: RowStore>(
-    rows: &R,
-    net: &NetName,
-    metric: &Metric,
-    source: &PidName,
-    out: &mut Writer,
-) -> Result<(), AllocError>
-    requires { AreGood (R.rows rows.now) }
-    ensures { OnOk result (AddsMembers
-        (members_from (R.rows rows.now) net.now metric.now source.now) out.old out.new) }
-{
-    let span = Span::CostsFrom(net.clone()?, metric.clone()?, source.clone()?);
-    let mut costs = rows_in(rows, span);
-    let written = write_all_members(&mut costs, out);
-    drop(costs);
-    written
-}
-
-/// Writes the costs that the rows of a walk give, as members.
-fn write_all_members<R: RowStore>(costs: &mut Within<R>, out: &mut Writer) -> Result<(), AllocError>
-    ensures { OnOk result (AddsMembers (members_given (filter_map cost_given costs.old)) out.old out.new) }
-{
-    while let Some(row) = costs.next() {
-        write_member(row, out)?;
-    }
-    Ok(())
-}
-
-/// Writes the cost that a row gives, as a member.
-fn write_member(row: &(Key, Value), out: &mut Writer) -> Result<(), AllocError>
-    ensures { OnOk result (AddsTokens (member_tokens (cost_given row.now)) out.old out.new) }
-{
-    match (&row.0, &row.1) {
-        (Key::Cost(_, _, _, destination), Value::Num(cost)) => write_cost(destination, *cost, out),
-        _ => Ok(()),
-    }
 }
 
 /// Writes the cost that a row gives, in the group of its source. A name is shared once a group.

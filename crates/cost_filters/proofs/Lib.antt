@@ -7,7 +7,6 @@ pub mod PairLemmas
 pub mod FilterLemmas
 pub mod PairsLemmas
 pub mod TextLemmas
-pub mod PlainLemmas
 pub mod StartsLemmas
 pub mod BetweenLemmas
 pub mod NamesLemmas

@@ -1,6 +1,6 @@
 -- The text of the groups of a filtered cost map (RFC 8259), with no space.
-use Rattle.std.specs.Prelude.{◌≡◌, ℕ, List, [], ◌∷◌, ◌++◌, Bool, true, not, ◌&&◌, ◌||◌, ◌==◌, nat_lt, Option, Some}
-use Rattle.std.specs.Prelude.{None, is_some, if◌then◌else◌}
+use Rattle.std.specs.Prelude.{◌≡◌, ℕ, List, [], ◌∷◌, ◌++◌, Bool, true, ◌||◌, Option, Some, None, is_some}
+use Rattle.std.specs.Prelude.{if◌then◌else◌}
 use Rattle.std.specs.List.{list_any}
 use Rattle.json.specs.Print.{quoted}
 use Rattle.json.specs.Token.{end_array}
@@ -14,10 +14,6 @@ use Rattle.alto_maps.specs.Shape.{Name}
 use Rattle.cost_filters.specs.Columns.{columns_of, object_if_any, reached, valued}
 use Rattle.cost_filters.specs.Filter.{costs_data}
 use Rattle.cost_filters.specs.Pairs.{PairsData, pair_shown}
-
--- a byte that stands for itself between quotes
-abbrev pub is_plain : ℕ → Bool
-is_plain b = not (nat_lt b 32) && not (b == 34) && not (b == 92)
 
 -- a member, where there is a value, behind a comma, where one stands before
 abbrev pub member_if_any : Bool → Name → Option Data → List ℕ

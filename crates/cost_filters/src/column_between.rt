@@ -12,10 +12,11 @@ ghost use Rattle.cost_filters.specs.Filter.{costs_data};
 ghost use Rattle.cost_filters.specs.Pairs.{costs_at, has_cost};
 
 use crate::columns::{Column, Scale, scaled};
-use crate::text::{push_comma, push_cost};
+use crate::text::push_cost;
 use crate::types::CostType;
 use alto_names::NetName;
 use cost_tables::{CostTables, CostsBetween, PidText};
+use doc_pieces::push_comma;
 use std::alloc::{AllocError, Global};
 use std::marker::Model;
 use text_buffer::TextBuffer;

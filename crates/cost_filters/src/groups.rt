@@ -5,7 +5,7 @@ ghost use Rattle.cost_filters.specs.Text.{PutsIfAny, found_object, member_start}
 
 use crate::pairs_from::PairsFrom;
 use crate::starts::MemberStarts;
-use crate::text::{push_comma, push_name};
+use doc_pieces::{push_comma, push_name};
 use std::alloc::AllocError;
 use text_buffer::TextBuffer;
 

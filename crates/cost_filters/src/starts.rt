@@ -5,7 +5,7 @@ ghost use Rattle.serde_json.specs.Written.{comma_if};
 ghost use Rattle.alto_maps.specs.Shape.{Name};
 ghost use Rattle.cost_filters.specs.Text.{member_start};
 
-use crate::text::push_name;
+use doc_pieces::push_name;
 use std::alloc::{AllocError, Global};
 use std::marker::Model;
 use text_buffer::TextBuffer;

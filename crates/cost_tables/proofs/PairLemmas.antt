@@ -1,5 +1,5 @@
 -- Names and costs in two lists of one length, told as a list of pairs.
-use Rattle.std.proofs.Common.{◌≡◌, ℕ, zero, suc, ◌<◌, ◌≤◌, refl, ap, sym, ◌∙◌, append_assoc, arith}
+use Rattle.std.proofs.Common.{◌≡◌, ℕ, zero, suc, ◌<◌, ◌≤◌, refl, ap, ap₂, sym, ◌∙◌, append_assoc, arith}
 use Rattle.std.proofs.lemmas.Bool.{and_parts}
 use Rattle.std.proofs.lemmas.List.{map-append}
 use Rattle.std.proofs.Math.ListN.{get_or-map}
@@ -101,6 +101,33 @@ slice_get-zip (first ∷ names) (one ∷ costs) zero name cost a b =
     let one_is : one ≡ cost = cc in
     rw (first_is, one_is) refl
 slice_get-zip (first ∷ names) (one ∷ costs) (suc place) name cost a b = slice_get-zip names costs place name cost a b
+
+-- the names of no costs rise
+pub none_rise : IsStrictlySortedBy name_cmp []
+unfolding IsStrictlySortedBy
+none_rise = tt
+
+-- whatever stands at a place of both
+abbrev pub both_of : Option Name → Option ℕ → Option (Name × ℕ)
+both_of (Some name) (Some cost) = Some (name, cost)
+both_of _ _ = None
+
+pub slice_get-both : (names : List Name) (costs : List ℕ) (place : ℕ) → length costs ≡ length names
+    → both_of (slice_get names place) (slice_get costs place) ≡ slice_get (zip names costs) place
+slice_get-both [] [] place even = refl
+slice_get-both [] (one ∷ costs) place even = absurd (omega arith)
+slice_get-both (first ∷ names) [] place even = absurd (omega arith)
+slice_get-both (first ∷ names) (one ∷ costs) zero even = refl
+slice_get-both (first ∷ names) (one ∷ costs) (suc place) even = slice_get-both names costs place (omega arith)
+
+pub both_of-none : (name : Option Name) → both_of name None ≡ None
+both_of-none None = refl
+both_of-none (Some name) = refl
+
+pub pair_at : (names : List Name) (costs : List ℕ) (place : ℕ) (name : Option Name) (cost : Option ℕ)
+    → length costs ≡ length names → name ≡ slice_get names place → cost ≡ slice_get costs place
+    → both_of name cost ≡ slice_get (zip names costs) place
+pair_at names costs place name cost even is beside = ap₂ both_of is beside ∙ slice_get-both names costs place even
 
 -- names that are the same one by one are one list
 pub one_list : (xs ys : List Name) → pointwise same_name xs ys ≡ true → xs ≡ ys

@@ -34,6 +34,10 @@ Tables = List ((Name × Name) × Table)
 abbrev pub cost_to : Costs → Name → Option ℕ
 cost_to costs dst = lookup (is_at (name_cmp dst)) costs
 
+-- the costs from a source, if it has any
+abbrev pub costs_if_any : Option Costs → Costs
+costs_if_any costs = unwrap_or costs []
+
 -- the cost of a pair in a table
 abbrev pub cost_told : Table → Name → Name → Option ℕ
 cost_told table src dst = option_and_then (λ costs. cost_to costs dst) (lookup (is_at (name_cmp src)) table)

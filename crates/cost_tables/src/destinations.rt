@@ -1,5 +1,5 @@
 //! Destinations that sources share.
-ghost use Rattle.std.specs.Prelude.{◌≡◌, true, IfOk, IfSome, OnOk, Some, slice_get};
+ghost use Rattle.std.specs.Prelude.{◌≡◌, true, IfOk, IfSome, OnOk, Some, option_map, slice_get};
 ghost use Rattle.std.specs.List.Sorted.{IsStrictlySortedBy};
 ghost use Rattle.alto_rows.specs.Order.{name_cmp};
 ghost use Rattle.cost_tables.specs.Lists.{ArePlaces, IsPlace};
@@ -59,9 +59,17 @@ impl Destinations {
 
     /// The names.
     pub(crate) fn names(&self) -> &[PidName]
-        ensures { result.now ≡ self.now.names }
+        ensures names { result.now ≡ self.now.names }
+        ensures order { IsStrictlySortedBy name_cmp self.now.names }
     {
         &self.names
+    }
+
+    /// The name at a place, if there is one.
+    pub(crate) fn name(&self, place: usize) -> Option<&PidName>
+        ensures { option_map (λ name. name.now) result ≡ slice_get self.now.names place }
+    {
+        name_at(&self.names, place)
     }
 
     /// Where a name stands, if it does. A search among numbers that lie together, and one comparison of two names,
@@ -130,6 +138,12 @@ impl Destinations {
             Err(_) => self.names.len(),
         }
     }
+}
+
+fn name_at(names: &[PidName], place: usize) -> Option<&PidName>
+    ensures { option_map (λ name. name.now) result ≡ slice_get names.now place }
+{
+    names.get(place)
 }
 
 /// Whether a destination stands at a place.

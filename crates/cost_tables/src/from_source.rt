@@ -4,6 +4,7 @@ ghost use Rattle.std.specs.Prelude.{option_map, slice_get, zip};
 ghost use Rattle.std.specs.Arc.{arc_value};
 ghost use Rattle.std.specs.List.{filter_map};
 ghost use Rattle.std.specs.List.Sorted.{IsStrictlySortedBy};
+ghost use Rattle.std.specs.Map.{keys_of};
 ghost use Rattle.alto_rows.specs.Order.{name_cmp};
 ghost use Rattle.alto_rows.specs.Rows.{AreSorted};
 ghost use Rattle.cost_tables.specs.Lists.{ArePlaces, IsSharedOrNew};
@@ -114,7 +115,9 @@ impl FromSource {
 
     /// How many costs the source has.
     pub(crate) fn count(&self) -> usize
-        ensures { result ≡ length self.now.1.list.names }
+        ensures names { result ≡ length self.now.1.list.names }
+        ensures costs { result ≡ length self.now.1.costs }
+        ensures order { IsStrictlySortedBy name_cmp (keys_of self.now.1.costs) }
     {
         self.list.names().len()
     }
@@ -124,6 +127,15 @@ impl FromSource {
         ensures { result ≡ nat_eq (length self.now.1.costs) 0 }
     {
         self.costs.is_empty()
+    }
+
+    /// The destination and the cost at a place, if there is one.
+    pub(crate) fn pair(&self, place: usize) -> Option<(&PidName, u64)>
+        ensures { option_map (λ pair. (pair.0.now, pair.1)) result ≡ slice_get self.now.1.costs place }
+    {
+        let destination = self.list.name(place)?;
+        let cost = self.costs.get(place)?;
+        Some((destination, cost))
     }
 
     /// Finds where destinations stand, as the list does.

@@ -52,6 +52,16 @@ impl Numbers {
         Ok(Numbers { kept })
     }
 
+    /// That at a place, if there is one.
+    pub(crate) fn get(&self, place: usize) -> Option<u64>
+        ensures { result ≡ slice_get self.now place }
+    {
+        match &self.kept {
+            Kept::Narrow(numbers) => narrow_number(numbers, place),
+            Kept::Wide(numbers) => wide_number(numbers, place),
+        }
+    }
+
     /// Puts a number in place of another, and tells whether there is one and this one fits where it stood.
     pub(crate) fn set(&mut self, place: usize, number: u64) -> bool
         ensures set { result ≡ true → self.new ≡ slice_set self.old place number }

@@ -7,10 +7,12 @@ ghost use Rattle.alto_rows.specs.Rows.{AreSorted, Rows};
 ghost use Rattle.alto_rows.specs.Rows as spec;
 ghost use Rattle.alto_rows.specs.Versions.{resources_of};
 ghost use Rattle.cost_tables.specs.Lists.{table_of};
-ghost use Rattle.cost_tables.specs.Tables.{AreCostsOf, TellsCosts, costs_between, costs_of, is_of};
+ghost use Rattle.cost_tables.specs.Tables.{AreCostsOf, Name, TellsCosts, cost_in, cost_to, costs_between, costs_of};
+ghost use Rattle.cost_tables.specs.Tables.{is_of};
 
 use crate::between::CostsBetween;
 use crate::costs_between::costs_between;
+use crate::costs_from::CostsFrom;
 use crate::pid_text::PidText;
 use crate::table::Table;
 use alto_names::{Metric, NetName, PidName};
@@ -118,6 +120,17 @@ impl CostTables {
         match self.table(net, metric) {
             Some(table) => costs_between(alloc, Some(&**table), sources, destinations),
             None => costs_between(alloc, None, sources, destinations),
+        }
+    }
+
+    /// The costs in a metric of a network from a source. One pass over the metrics, two searches among numbers that lie
+    /// together, and one comparison of two names, where no other source's name begins with the same eight bytes.
+    pub fn costs_from(&self, net: &NetName, metric: &Metric, source: &PidText) -> CostsFrom<'_>
+        ensures { (dst : Name) → cost_to result dst ≡ cost_in self.now net.now metric.now source.now dst }
+    {
+        match self.table(net, metric) {
+            Some(table) => CostsFrom::new(table.from(source)),
+            None => CostsFrom::new(None),
         }
     }
 

@@ -3,3 +3,4 @@ pub mod TextLemmas
 pub mod PartLemmas
 pub mod PlaceLemmas
 pub mod RenewedLemmas
+pub mod PlainLemmas

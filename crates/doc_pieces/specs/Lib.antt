@@ -2,3 +2,4 @@ pub mod Pieces
 pub mod Parts
 pub mod Renewed
 pub mod Laws
+pub mod Text

@@ -15,9 +15,11 @@ mod parts;
 mod piece;
 mod pieces;
 mod renewing;
+mod text;
 mod touched;
 
 pub use grouped::Grouped;
 pub use laws::{pieces_make_the_document, untouched_pieces_stay};
 pub use parts::Parts;
 pub use pieces::Pieces;
+pub use text::{push_comma, push_name};

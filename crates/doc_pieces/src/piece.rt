@@ -3,11 +3,11 @@ ghost use Rattle.alto_maps.specs.Shape.{stands};
 ghost use Rattle.doc_pieces.specs.Pieces.{piece_of};
 
 use crate::grouped::Grouped;
-use json::Writer;
 use json_tree::Name;
 use shared_list::Named;
 use std::alloc::{AllocError, Global};
 use std::marker::Model;
+use text_buffer::TextBuffer;
 
 /// A group's name, and its text as a member. A contract sees both. The text is kept behind a comma, so that most groups
 /// are put behind another in one piece.
@@ -53,19 +53,18 @@ impl Named for Piece {
 }
 
 /// The piece of a group that stands, written anew, with no spare room.
-pub(crate) fn written<M: Grouped>(
+pub(crate) fn written<G: Grouped>(
     alloc: Global,
-    source: &M,
+    groups: &G,
     name: Name,
 ) -> Result<Piece, AllocError>
-    requires { stands (M.face source.now) name ≡ true }
-    ensures { IfOk result (λ piece. piece ≡ piece_of (M.face source.now) name) }
+    requires { stands (G.map groups.now) name ≡ true }
+    ensures { IfOk result (λ piece. piece ≡ piece_of (G.map groups.now) name) }
 {
-    let mut text = Vec::new(alloc);
-    text.push(b',')?;
-    let mut out = Writer::new(text);
-    source.write_group(alloc, &name, &mut out)?;
-    let mut behind_comma = out.into_inner();
+    let mut text = TextBuffer::new(alloc);
+    text.push(b",")?;
+    groups.push_group(alloc, &name, &mut text)?;
+    let mut behind_comma = text.into_bytes();
     behind_comma.shrink_to_fit();
     Ok(Piece { name, behind_comma })
 }

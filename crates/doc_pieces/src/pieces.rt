@@ -37,29 +37,37 @@ impl Model for Pieces {
 }
 
 impl Pieces {
-    /// The pieces of a map. Costs one walk over the groups, and the writing of the meta and of each group.
+    /// The pieces of a map with these groups. Costs one walk over the groups, and the writing of the meta and of each
+    /// group.
     #[tactic(auto, unfolding(crate::specs::Pieces::pieces_of))]
-    pub fn of<M: Grouped>(alloc: Global, source: &M) -> Result<Pieces, AllocError>
+    pub fn of<M: Walked, G: Grouped>(
+        alloc: Global,
+        source: &M,
+        groups: &G,
+    ) -> Result<Pieces, AllocError>
+        requires { G.map groups.now ≡ M.face source.now }
         ensures { IfOk result (λ pieces. pieces ≡ pieces_of M.shape (M.face source.now)) }
     {
-        let groups = written_groups(alloc, source)?;
+        let groups = written_groups(alloc, groups)?;
         framed(alloc, source, groups)
     }
 
-    /// The pieces of a map that differs at these places from the one that these are the pieces of.
+    /// The pieces of a map with these groups that differs at these places from the one that these are the pieces of.
     ///
     /// Costs one pass over the places and one over the runs of groups, and the writing of the meta and of each group
     /// that a place touches. All other groups are shared, by whole runs where no place touches one of them.
-    pub fn renewed<M: Grouped>(
+    pub fn renewed<M: Walked, G: Grouped>(
         &self,
         alloc: Global,
         source: &M,
+        groups: &G,
         places: &[Place],
     ) -> Result<Pieces, AllocError>
+        requires { G.map groups.now ≡ M.face source.now }
         ensures { IfOk result (λ pieces. (before : Face) → self.now ≡ pieces_of M.shape before
             → DifferAt M.shape places.now before (M.face source.now) → pieces ≡ pieces_of M.shape (M.face source.now)) }
     {
-        let groups = renewed_groups(alloc, &self.groups, source, places)?;
+        let groups = renewed_groups(alloc, &self.groups, groups, places)?;
         framed(alloc, source, groups)
     }
 
@@ -119,11 +127,11 @@ fn framed<M: Walked>(
 }
 
 /// The groups of a map, written anew.
-fn written_groups<M: Grouped>(alloc: Global, source: &M) -> Result<SharedList<Piece>, AllocError>
-    ensures { IfOk result (λ groups. groups ≡ spec.groups_of (M.face source.now)) }
+fn written_groups<G: Grouped>(alloc: Global, groups: &G) -> Result<SharedList<Piece>, AllocError>
+    ensures { IfOk result (λ pieces. pieces ≡ spec.groups_of (G.map groups.now)) }
 {
-    let names = source.group_names(alloc)?;
-    with_written(alloc, &SharedList::new(alloc), source, &names)
+    let names = groups.group_names(alloc)?;
+    with_written(alloc, &SharedList::new(alloc), groups, &names)
 }
 
 /// The length of the texts of groups with a comma between each two.

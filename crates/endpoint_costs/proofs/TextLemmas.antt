@@ -5,7 +5,7 @@ use Rattle.json.specs.Print.{quoted}
 use Rattle.serde_json.specs.Data.{Data}
 use Rattle.serde_json.specs.Written.{compact_text}
 use Rattle.json_tree.specs.Document.{object_of, with_member}
-use Rattle.cost_filters.proofs.PlainLemmas.{plain_text}
+use Rattle.doc_pieces.proofs.PlainLemmas.{plain_text}
 
 -- how it begins
 pub section_opened : 123 ∷ (34 ∷ (codes "endpoint-cost-map" ++ 34 ∷ 58 ∷ []))

@@ -10,7 +10,7 @@ use crate::document::{meta_of, version_tag};
 use crate::pids::{group, group_names, groups, is_declared};
 use crate::prefixes::{prefixes_of, texts_in_family};
 use crate::version::net_tag;
-use crate::writing::{write_group, write_groups, write_meta};
+use crate::writing::{group_text, write_groups, write_meta};
 use alto_maps::{MapSource, Walked};
 use alto_names::{NameFault, NetName, PidName};
 use alto_rows::RowStore;
@@ -19,6 +19,7 @@ use json::Writer;
 use json_tree::{Name, Tree};
 use std::alloc::{AllocError, Global};
 use std::marker::Model;
+use text_buffer::TextBuffer;
 
 /// The map of a network at good rows, from which its document and its edges are made. A contract sees the rows and the
 /// network's name.
@@ -110,13 +111,26 @@ impl<'a, R: RowStore> Walked for NetMap<'a, R> {
 }
 
 impl<'a, R: RowStore> Grouped for NetMap<'a, R> {
+    ghost use Rattle.net_docs.specs.NetworkMap.{net_face};
+
+    ghost map = { λ map. net_face map.1 map.0 };
+
     fn group_names(&self, alloc: Global) -> Result<Vec<Name>, AllocError> {
         group_names(alloc, self.rows, self.net)
     }
 
-    fn write_group(&self, alloc: Global, name: &Name, out: &mut Writer) -> Result<(), AllocError> {
+    fn has_group(&self, alloc: Global, name: &Name) -> Result<bool, AllocError> {
+        self.stands(alloc, name)
+    }
+
+    fn push_group(
+        &self,
+        alloc: Global,
+        name: &Name,
+        out: &mut TextBuffer,
+    ) -> Result<(), AllocError> {
         match pid_standing(alloc, self.rows, self.net, name)? {
-            Some(pid) => write_group(alloc, self.rows, self.net, &pid, out),
+            Some(pid) => out.push(&group_text(alloc, self.rows, self.net, &pid)?),
             None => unreachable!(),
         }
     }

@@ -1,9 +1,10 @@
 //! A network map's parts as JSON text, written without a tree.
-ghost use Rattle.std.specs.Prelude.{◌≡◌, true, false, not, map, OnOk};
+ghost use Rattle.std.specs.Prelude.{◌≡◌, true, false, not, map, IfOk, OnOk};
 ghost use Rattle.json_tree.specs.Tree.{members_in_order};
 ghost use Rattle.alto_rows.specs.Good.{AreGood};
 ghost use Rattle.alto_maps.specs.Shape.{group_object, section_object};
 ghost use Rattle.alto_maps.specs.Writing.{AddsValue, AddsMember, AddsMembers};
+ghost use Rattle.doc_pieces.specs.Pieces.{member_text};
 ghost use Rattle.net_docs.specs.NetworkMap.{is_empty, net_face};
 ghost use Rattle.net_docs.specs.Prefixes.{group_of, texts_in_family};
 ghost use Rattle.net_docs.specs.Writing.{AddsFamily, AddsTexts, groups_of};
@@ -82,7 +83,7 @@ fn write_groups_of<R: RowStore>(
 }
 
 /// Writes the group of a PID with its name. One search and one walk over the rows of its prefixes.
-pub(crate) fn write_group<R: RowStore>(
+fn write_group<R: RowStore>(
     alloc: Global,
     rows: &R,
     net: &NetName,
@@ -95,6 +96,21 @@ pub(crate) fn write_group<R: RowStore>(
     let prefixes = prefixes_of(alloc, rows, net, pid)?;
     out.key(pid.as_str())?;
     write_families(alloc, &prefixes, out)
+}
+
+/// The group of a PID with its name, as text. One search and one walk over the rows of its prefixes.
+pub(crate) fn group_text<R: RowStore>(
+    alloc: Global,
+    rows: &R,
+    net: &NetName,
+    pid: &PidName,
+) -> Result<Vec<u8>, AllocError>
+    ensures { IfOk result (λ text. text.items
+        ≡ member_text pid.now (group_object (net_face net.now (R.rows rows.now)) pid.now)) }
+{
+    let mut out = Writer::new(Vec::new(alloc));
+    write_group(alloc, rows, net, pid, &mut out)?;
+    Ok(out.into_inner())
 }
 
 /// Writes the group of a PID that has these prefixes.

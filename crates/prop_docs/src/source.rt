@@ -12,7 +12,7 @@ ghost use Rattle.prop_docs.specs.PropertyMap.{prop_face, prop_meta, value_data};
 
 use crate::entities::{entities_of, entity_named, group_names};
 use crate::properties::{group, props_span, value_tree};
-use crate::writing::{write_group, write_groups, write_meta};
+use crate::writing::{group_text, write_groups, write_meta};
 use alto_maps::{MapSource, Walked};
 use alto_names::{NameFault, NetName, PropName};
 use alto_rows::{Entity, Key, RowStore, Span, Value};
@@ -22,6 +22,7 @@ use json_tree::{Members, Name, Tree};
 use net_docs::dependent_tags;
 use std::alloc::{AllocError, Global};
 use std::marker::Model;
+use text_buffer::TextBuffer;
 
 /// The property map of a network at good rows, from which its document and its edges are made. A contract sees the rows
 /// and the network's name.
@@ -110,12 +111,25 @@ impl<'a, R: RowStore> Walked for PropMap<'a, R> {
 }
 
 impl<'a, R: RowStore> Grouped for PropMap<'a, R> {
+    ghost use Rattle.prop_docs.specs.PropertyMap.{prop_face};
+
+    ghost map = { λ map. prop_face map.1 map.0 };
+
     fn group_names(&self, alloc: Global) -> Result<Vec<Name>, AllocError> {
         group_names(alloc, self.rows, self.net)
     }
 
-    fn write_group(&self, alloc: Global, name: &Name, out: &mut Writer) -> Result<(), AllocError> {
-        write_group(alloc, self.rows, self.net, name, out)
+    fn has_group(&self, alloc: Global, name: &Name) -> Result<bool, AllocError> {
+        self.stands(alloc, name)
+    }
+
+    fn push_group(
+        &self,
+        alloc: Global,
+        name: &Name,
+        out: &mut TextBuffer,
+    ) -> Result<(), AllocError> {
+        out.push(&group_text(alloc, self.rows, self.net, name)?)
     }
 }
 

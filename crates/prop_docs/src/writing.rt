@@ -1,10 +1,11 @@
 //! A property map's parts as JSON text, written without a tree.
-ghost use Rattle.std.specs.Prelude.{◌≡◌, OnOk};
+ghost use Rattle.std.specs.Prelude.{◌≡◌, IfOk, OnOk};
 ghost use Rattle.std.specs.List.Sorted.{IsStrictlySortedBy};
 ghost use Rattle.alto_maps.specs.Shape.{group_object, section_object};
 ghost use Rattle.alto_maps.specs.Writing.{AddsMember, AddsMembers, AddsValue};
 ghost use Rattle.alto_rows.specs.Good.{AreGood};
 ghost use Rattle.alto_rows.specs.Order.{name_cmp};
+ghost use Rattle.doc_pieces.specs.Pieces.{member_text};
 ghost use Rattle.prop_docs.specs.PropertyMap.{prop_face, prop_meta, value_data};
 ghost use Rattle.prop_docs.specs.Properties as spec;
 ghost use Rattle.prop_docs.specs.Writing.{groups_of, props_in_order};
@@ -65,7 +66,7 @@ fn write_each_group<R: RowStore>(
 }
 
 /// Writes the group of a text with its name. One search and one walk over the rows of its properties.
-pub(crate) fn write_group<R: RowStore>(
+fn write_group<R: RowStore>(
     alloc: Global,
     rows: &R,
     net: &NetName,
@@ -79,6 +80,22 @@ pub(crate) fn write_group<R: RowStore>(
     let properties = properties_of(alloc, rows, net, text)?;
     out.key(text.as_str())?;
     write_properties(&properties, out)
+}
+
+/// The group of a text with its name, as text. One search and one walk over the rows of its properties.
+pub(crate) fn group_text<R: RowStore>(
+    alloc: Global,
+    rows: &R,
+    net: &NetName,
+    name: &Name,
+) -> Result<Vec<u8>, AllocError>
+    requires { AreGood (R.rows rows.now) }
+    ensures { IfOk result (λ text. text.items
+        ≡ member_text name.now (group_object (prop_face net.now (R.rows rows.now)) name.now)) }
+{
+    let mut out = Writer::new(Vec::new(alloc));
+    write_group(alloc, rows, net, name, &mut out)?;
+    Ok(out.into_inner())
 }
 
 /// Writes the object of properties whose names rise.

@@ -14,7 +14,7 @@ returns-in_ok-places-in-Net g c =
     (λ later is.
     pieces_led c.args.of.now (resource.Net c.in-Net.net) (g.R.RowStore.rows c.args.rows.now) c.args.keys.now
     c.deref.result.now _ c.args.text.now later c.in-Net.is (c.deref.ensures.value ∙ c.in_ok-places-in-Net.ensures)
-    (ap (λ (map : Rows × List ℕ). net_face map.1 map.0) c.new.ensures) is)
+    (ap (λ (map : Rows × List ℕ). net_face map.1 map.0) c.new-map.ensures) is)
     c.renewed.ensures
 
 pub returns-in_ok-places-in-Cost : goal.returns-in_ok-places-in-Cost
@@ -24,7 +24,7 @@ returns-in_ok-places-in-Cost g c =
     pieces_led c.args.of.now (resource.Cost c.in-Cost.net c.in-Cost.metric) (g.R.RowStore.rows c.args.rows.now)
     c.args.keys.now c.deref-in-Cost.result.now _ c.args.text.now later c.in-Cost.is
     (c.deref-in-Cost.ensures.value ∙ c.in_ok-places-in-Cost.ensures)
-    (ap (λ (map : Rows × List ℕ × List ℕ). cost_face map.1 map.2 map.0) c.new-in-Cost.ensures) is)
+    (ap (λ (map : Rows × List ℕ × List ℕ). cost_face map.1 map.2 map.0) c.new-map-in-Cost.ensures) is)
     c.renewed-in-Cost.ensures
 
 pub returns-in_ok-places-in-Prop : goal.returns-in_ok-places-in-Prop
@@ -34,5 +34,5 @@ returns-in_ok-places-in-Prop g c =
     pieces_led c.args.of.now (resource.Prop c.in-Prop.net) (g.R.RowStore.rows c.args.rows.now) c.args.keys.now
     c.deref-in-Prop.result.now _ c.args.text.now later c.in-Prop.is
     (c.deref-in-Prop.ensures.value ∙ c.in_ok-places-in-Prop.ensures)
-    (ap (λ (map : Rows × List ℕ). prop_face map.1 map.0) c.new-in-Prop.ensures) is)
+    (ap (λ (map : Rows × List ℕ). prop_face map.1 map.0) c.new-map-in-Prop.ensures) is)
     c.renewed-in-Prop.ensures

@@ -22,9 +22,10 @@ loop-of-preserved g c =
     record {
       declared = (rw front at c.loop-of.invariant.declared).1;
       whole = λ before led had.
+          let told = text_told before of (entries c.args.texts.now) _ had c.text_of-before.ensures in
           text_step _ (entries c.loop-of.after.items) _ c.loop-of.of-iterator.rest.items _ of _ front
           (ap entries c.in_ok-push.ensures.items ∙ map-append _ c.loop-of.after.items _)
-          (c.in_ok-text.ensures before led (text_told before of (entries c.args.texts.now) _ had c.text_of.ensures))
+          (c.in_ok-text.ensures before led told)
           (c.loop-of.invariant.whole before led had);
       keys =
           touching_step c.args.writes.now (lists c.loop-of.found.items) _ c.in_ok-keys.keys.items

@@ -6,7 +6,7 @@ use Rattle.json.specs.Token.{key}
 use Rattle.json.specs.Tree.{json_tokens}
 use Rattle.serde_json.specs.Written.{compact_text, outline}
 use Rattle.cost_filters.specs.Filter.{filtered_face, filtered_meta}
-use Rattle.cost_filters.proofs.PlainLemmas.{printed_member, section_opened}
+use Rattle.doc_pieces.proofs.PlainLemmas.{printed_member, section_opened}
 use Rattle.cost_filters.proofs.TextLemmas.{document_text}
 use Rattle.cost_filters.proofs.filter.filter_cost_text.Goals as goal
 

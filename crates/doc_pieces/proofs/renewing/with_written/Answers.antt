@@ -9,7 +9,7 @@ use Rattle.shared_list.specs.Order.{name_cmp}
 
 pub changed-requires : goal.changed-requires
 changed-requires g c =
-    let face = g.M.MapSource.face c.args.source.now in
+    let face = g.G.Grouped.map c.args.groups.now in
     let all : c.loop-name.changes.items ≡ map (change_of face) c.args.names.now =
     c.loop-name.invariant
     ∙ ap (map (change_of face)) (take_all c.loop-name.name-index c.args.names.now c.loop-name-test.false) in
@@ -17,7 +17,7 @@ changed-requires g c =
 
 pub returns : goal.returns
 returns g c =
-    let face = g.M.MapSource.face c.args.source.now in
+    let face = g.G.Grouped.map c.args.groups.now in
     let all : c.loop-name.changes.items ≡ map (change_of face) c.args.names.now =
     c.loop-name.invariant
     ∙ ap (map (change_of face)) (take_all c.loop-name.name-index c.args.names.now c.loop-name-test.false) in

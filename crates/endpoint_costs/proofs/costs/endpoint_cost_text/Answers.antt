@@ -5,7 +5,7 @@ use Rattle.json.specs.Print.{print, quoted}
 use Rattle.json.specs.Token.{key}
 use Rattle.json.specs.Tree.{json_tokens}
 use Rattle.serde_json.specs.Written.{compact_text, outline}
-use Rattle.cost_filters.proofs.PlainLemmas.{printed_member}
+use Rattle.doc_pieces.proofs.PlainLemmas.{printed_member}
 use Rattle.json_tree.specs.Document.{object_of}
 use Rattle.endpoint_costs.specs.Ask.{EndAskData}
 use Rattle.endpoint_costs.specs.Costs.{addrs_at, endpoint_meta, endpoints_at, endpoints_of, pairs_object}

@@ -23,24 +23,24 @@ graphs_after-requires-clause-good g c =
 pub graphs_after-requires-clause-texts : goal.graphs_after-requires-clause-texts
 graphs_after-requires-clause-texts g c = λ of.
     let before = g.R.RowStore.rows (arc_value c.self.inside.rows) in
-    let same : g.R.RowStore.rows c.deref-7.result.now ≡ g.R.RowStore.rows (arc_value c.in_ok-rows.rows) =
-    ap g.R.RowStore.rows c.deref-7.ensures in
-    let led : g.R.RowStore.rows c.deref-7.result.now ≡ after before c.deref-8.result.now =
+    let same : g.R.RowStore.rows c.deref-10.result.now ≡ g.R.RowStore.rows (arc_value c.in_ok-rows.rows) =
+    ap g.R.RowStore.rows c.deref-10.ensures in
+    let led : g.R.RowStore.rows c.deref-10.result.now ≡ after before c.deref-11.result.now =
     same ∙ (ap g.R.RowStore.rows c.in_ok-rows.ensures.ok ∙ (c.in_ok-with.ensures
-    ∙ rw (c.deref.ensures, c.deref-2.ensures.value, c.deref-8.ensures.value) refl)) in
+    ∙ rw (c.deref.ensures, c.deref-2.ensures.value, c.deref-11.ensures.value) refl)) in
     let had = c.in_ok-renewed.ensures.texts before led
-    (subst (AreTextsOf before) (ap entries (sym c.deref-6.ensures.value)) c.self.invariant.0) in
+    (subst (AreTextsOf before) (ap entries (sym c.deref-9.ensures.value)) c.self.invariant.0) in
     let told = text_told _ of (entries c.in_ok-renewed.renewed.texts.items) _ had refl in
     subst (λ texts. IfSome (text_in (entries texts) of) (λ text. text
     ≡ map_pieces (g.R.RowStore.rows (arc_value c.in_ok-rows.rows)) of))
-    (sym c.deref-10.ensures.value)
+    (sym c.deref-13.ensures.value)
     (IfSome_then (text_in (entries c.in_ok-renewed.renewed.texts.items) of) told
     (λ text is. is.whole ∙ ap (λ (rows : Rows). map_pieces rows of) same))
 
 pub texts_after-requires-clause-resources : goal.texts_after-requires-clause-resources
 texts_after-requires-clause-resources g c =
     c.in_ok-of_texts.ensures ∙ c.deref-4.ensures.value ∙ c.in_ok-resources.ensures
-    ∙ ap resources_of (ap g.R.RowStore.rows (c.deref-3.ensures ∙ sym c.deref-7.ensures))
+    ∙ ap resources_of (ap g.R.RowStore.rows (c.deref-3.ensures ∙ sym c.deref-10.ensures))
 
 pub graphs_after-requires-clause-resources : goal.graphs_after-requires-clause-resources
 graphs_after-requires-clause-resources g c =
@@ -52,9 +52,9 @@ graphs_after-requires-clause-keys g c =
     let found = lists c.in_ok-renewed.renewed.keys.items in
     let all = resources_of (g.R.RowStore.rows (arc_value c.in_ok-rows.rows)) in
     subst (λ (writes : List Write). AreTouching writes found all)
-    (c.deref-8.ensures.value ∙ sym c.deref-11.ensures.value)
-    (subst (λ (rows : Rows). AreTouching c.deref-8.result.now found (resources_of rows))
-    (ap g.R.RowStore.rows c.deref-7.ensures) c.in_ok-renewed.ensures.keys)
+    (c.deref-11.ensures.value ∙ sym c.deref-14.ensures.value)
+    (subst (λ (rows : Rows). AreTouching c.deref-11.result.now found (resources_of rows))
+    (ap g.R.RowStore.rows c.deref-10.ensures) c.in_ok-renewed.ensures.keys)
 
 pub returns : goal.returns
 returns g c = λ book legal legal_more stands.
@@ -63,16 +63,16 @@ returns g c = λ book legal legal_more stands.
     ap g.R.RowStore.rows c.in_ok-rows.ensures.ok ∙ (c.in_ok-with.ensures
     ∙ rw (c.deref.ensures, c.deref-2.ensures.value, writes)
     (ap (λ (version : Version). after version.rows c.args.batch.now.writes) c.self.view_is)) in
-    let seen : g.R.RowStore.rows c.deref-13.result.now ≡ after (rows_of book) c.deref-14.result.now =
-    rw (c.deref-14.ensures.value, writes)
-    (ap g.R.RowStore.rows c.deref-13.ensures
+    let seen : g.R.RowStore.rows c.deref-16.result.now ≡ after (rows_of book) c.deref-17.result.now =
+    rw (c.deref-17.ensures.value, writes)
+    (ap g.R.RowStore.rows c.deref-16.ensures
     ∙ (led ∙ ap (λ (rows : Rows). after rows c.args.batch.now.writes) stands.current)) in
     stands_more book c.args.batch.now c.args.self.now _ stands
     (ap (λ (version : Version). version.n + 1) c.self.view_is)
     led
     (λ current. c.in_ok-graphs.ensures.later book c.args.batch.now legal legal_more
-    current (c.deref-11.ensures.value ∙ writes)
-    (ap entries c.deref-9.ensures.value ∙ (ap (λ (version : Version). version.graphs) c.self.view_is ∙ stands.graphs)))
+    current (c.deref-14.ensures.value ∙ writes)
+    (ap entries c.deref-12.ensures.value ∙ (ap (λ (version : Version). version.graphs) c.self.view_is ∙ stands.graphs)))
     (λ current. c.in_ok-tables.ensures (rows_of book) seen
-    (ap entries c.deref-12.ensures.value ∙ (ap (λ (version : Version). version.tables) c.self.view_is ∙ stands.tables))
-    ∙ ap tables_in (ap g.R.RowStore.rows c.deref-13.ensures ∙ current))
+    (ap entries c.deref-15.ensures.value ∙ (ap (λ (version : Version). version.tables) c.self.view_is ∙ stands.tables))
+    ∙ ap tables_in (ap g.R.RowStore.rows c.deref-16.ensures ∙ current))

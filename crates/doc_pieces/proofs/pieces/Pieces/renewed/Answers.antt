@@ -12,5 +12,5 @@ returns g c =
     ∙ pieces_renewed g.M.MapSource.shape earlier (g.M.MapSource.face c.args.source.now) c.args.places.now
     c.args.self.now _ _ had differ
     (ap (λ (pieces : Pieces). pieces.groups) c.self.view_is)
-    c.in_ok-groups.ensures.groups)
+    (rw (← c.requires) c.in_ok-groups.ensures.groups))
     c.framed.ensures
