@@ -168,7 +168,8 @@ write_in text is =
     let v = value_by (shape_of is.tag) last.tag behind.back last.back last.split last.second in
     let at : IsKeyAt (key_number is.tag) is.back of.of behind.back =
     record { kind = of.kind; is_key = of.is_key; read = behind.split ∙ ap (λ t. t ++ behind.back) of.spelled } in
-    let read = behind_read is.tag of.of v.0 is.back behind.back [] at v.1 (v.2 ∙ sym (append-nil (value_bytes v.0))) in (
+    let whole = v.2 ∙ sym (append-nil (value_bytes v.0)) in
+    let read = behind_read is.tag of.of v.0 is.back behind.back [] at v.1 whole in (
       record { key = of.of; value = v.0 },
       read.0,
       is.split ∙ read.1

@@ -68,7 +68,8 @@ pub same_value : {B E : Type 0} {a b : B} → ◌≡◌ {A = Result B E} (Ok a) 
 same_value e = cc
 
 -- what the change of CREATE TABLE is: the table, which is empty
-pub table_made : (limit : Option ℕ) (mode : Mode) (db : Database) (tally : Tally) (after : Database) → db.schema ≡ no_schema
+pub table_made : (limit : Option ℕ) (mode : Mode) (db : Database) (tally : Tally) (after : Database)
+    → db.schema ≡ no_schema
     → Does limit mode [] db create_text None CreateTable (Ok (tally, after))
     → (after.schema ≡ alto_schema) × (after.trees 0 ≡ [])
 table_made limit mode db tally after has h =

@@ -15,7 +15,8 @@ pub buckets_rise : (shift least one other : ℕ) → one ≤ other
     → bucket_of shift least one ≤ bucket_of shift least other
 buckets_rise shift least one other order =
     let divided : one / 2 ^ shift ≤ other / 2 ^ shift =
-    le-div (one / 2 ^ shift) other (2 ^ shift) (pow_pos shift) (omega (arith, order, div-mul-le_self one (2 ^ shift))) in
+    le-div (one / 2 ^ shift) other (2 ^ shift) (pow_pos shift)
+    (omega (arith, order, div-mul-le_self one (2 ^ shift))) in
     omega (arith, divided)
 
 -- rising numbers have rising buckets

@@ -19,8 +19,8 @@ use std::sync::ledger::{Blank, Ledger};
 ///
 /// It keeps the list, 64 bytes for each prefix, and 2 ranges for a prefix at most: of 14 bytes each in IPv4, of which a
 /// search reads 4, and of 26 in IPv6, of which it reads 16. Of the other 10, 9 are the range's PID or none, so that a
-/// look-up reads nothing between its search and the PID, and 1 is the index that says where the search begins. Names are
-/// shared.
+/// look-up reads nothing between its search and the PID, and 1 is the index that says where the search begins. Names
+/// are shared.
 #[derive(Drop)]
 pub struct RangeTable {
     rows: Vec<(Prefix, PidName)>,
