@@ -5,7 +5,6 @@ ghost use Rattle.percent_encoding.specs.Percent.{percent_decode};
 ghost use Rattle.alto_answers.specs.Target.{question_mark, from_slash, without_host, path_of, raw_segment, segment};
 
 use crate::bytes::place_of;
-use memchr::memchr;
 use percent_encoding::percent_decode;
 use std::alloc::{AllocError, Global};
 use std::borrow::CowSlice;
@@ -59,12 +58,16 @@ fn unescaped(alloc: Global, raw: &[u8]) -> Result<CowSlice<'_, u8>, AllocError>
 fn has_escape(text: &[u8]) -> bool
     ensures { result ≡ list_any (λ b. b == 37) text.now }
 {
-    memchr(b'%', text).is_some()
+    text.contains(&b'%')
 }
 
+/// What stands before a question mark. Most targets have none, and it costs less to see that than to search for it.
 fn before_query(target: &[u8]) -> &[u8]
     ensures { result.now ≡ before_first (λ b. b == question_mark) target.now }
 {
+    if !target.contains(&b'?') {
+        return target;
+    }
     &target[..place_of(target, b'?')]
 }
 
