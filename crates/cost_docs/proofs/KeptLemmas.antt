@@ -1,24 +1,22 @@
 -- Costs that tell what rows do of a source are the members of its group.
 use Rattle.std.proofs.Common.{◌≡◌, ◌+◌, ℕ, zero, suc, arith, refl, ap, sym, subst, ◌∙◌, append_assoc}
-use Rattle.std.proofs.lemmas.Map.Text.{is_eq-slice_cmp}
-use Rattle.std.specs.Prelude.{Bool, true, false, cond, List, [], ◌∷◌, ◌++◌, Option, Some, None, decimal, drop}
-use Rattle.std.specs.Prelude.{is_some, map}
+use Rattle.std.specs.Prelude.{Bool, true, cond, List, [], ◌∷◌, ◌++◌, Option, Some, None, decimal, drop}
+use Rattle.std.specs.Prelude.{map}
 use Rattle.std.specs.Prelude.{option_map, slice_get}
-use Rattle.std.specs.BTreeMap.{is_at}
 use Rattle.std.specs.Cmp.Lexicographic.{slice_cmp}
-use Rattle.std.specs.List.{list_any}
+use Rattle.std.specs.List.{flat_map, list_any}
 use Rattle.std.specs.List.Sorted.{IsStrictlySortedBy}
-use Rattle.std.specs.Map.{keys_of, lookup}
+use Rattle.std.specs.Map.{keys_of}
 use Rattle.std.specs.Ordering.{nat_cmp}
 use Rattle.std.specs.declared.cmp.Ordering.{Ordering}
 use Rattle.std.specs.declared.cmp.Ordering.TheVariants.{Less, Equal, Greater}
-use Rattle.json.specs.Print.{quoted}
+use Rattle.json.specs.Print.{escape_byte, quoted}
 use Rattle.json_tree.proofs.OrderLemmas.{same_members}
 use Rattle.json_tree.specs.Order.{AreInOrder, names_of}
 use Rattle.json_tree.specs.Tree.{members_in_order}
-use Rattle.serde_json.specs.Data.{Data, Members, number, object, unsigned}
+use Rattle.serde_json.specs.Data.{Data, Members, object}
 use Rattle.serde_json.specs.Find.{get_member}
-use Rattle.serde_json.specs.Written.{comma_if, compact_text, members_text}
+use Rattle.serde_json.specs.Written.{comma_if, members_text}
 use Rattle.alto_maps.proofs.ObjectLemmas.{found-named, in_order-named}
 use Rattle.alto_maps.specs.Shape.{Name, group_object, same_name}
 use Rattle.alto_rows.specs.declared.key.Key.TheVariants as key
@@ -106,10 +104,20 @@ none_left (first ∷ costs) zero none = cc
 none_left (first ∷ costs) (suc place) none = none_left costs place none
 
 -- a cost as a member, piece by piece
-pub member_put : (before behind_comma named text name : List ℕ) (cost : ℕ) (later : Bool)
-    → behind_comma ≡ before ++ comma_if later → named ≡ behind_comma ++ (quoted name ++ 58 ∷ [])
+pub member_put : (before opened begun named text name : List ℕ) (cost : ℕ) (later : Bool)
+    → flat_map escape_byte name ≡ name
+    → opened ≡ before ++ (comma_if later ++ 34 ∷ []) → begun ≡ opened ++ name → named ≡ begun ++ 34 ∷ 58 ∷ []
     → text ≡ named ++ decimal cost → text ≡ before ++ (comma_if later ++ (quoted name ++ 58 ∷ decimal cost))
-member_put before behind_comma named text name cost later comma is put = rw (put, is, comma) (simp append_assoc refl)
+member_put before opened begun named text name cost later plain first with_name is put =
+    let tail = decimal cost in
+    let comma = comma_if later in
+    rw (put, is, with_name, first, plain)
+    (append_assoc ((before ++ (comma ++ 34 ∷ [])) ++ name) (34 ∷ 58 ∷ []) tail
+    ∙ (append_assoc (before ++ (comma ++ 34 ∷ [])) name (34 ∷ 58 ∷ tail)
+    ∙ (append_assoc before (comma ++ 34 ∷ []) (name ++ 34 ∷ 58 ∷ tail)
+    ∙ ap (λ more. before ++ more)
+    (append_assoc comma (34 ∷ []) (name ++ 34 ∷ 58 ∷ tail)
+    ∙ ap (λ more. comma ++ 34 ∷ more) (sym (append_assoc name (34 ∷ []) (58 ∷ tail)))))))
 
 -- one cost is written
 pub text_more : (before text whole : List ℕ) (costs : Costs) (place : ℕ) (cost : Name × ℕ) (later : Bool)

@@ -8,3 +8,4 @@ pub mod WritingLemmas
 pub mod RankLemmas
 pub mod SourceLemmas
 pub mod KeptLemmas
+pub mod PidLemmas

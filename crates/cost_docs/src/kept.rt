@@ -1,8 +1,9 @@
 //! The groups of a cost map, from costs that are kept by source beside the rows.
-ghost use Rattle.std.specs.Prelude.{◌≡◌, ◌++◌, OnOk};
+ghost use Rattle.std.specs.Prelude.{◌≡◌, ◌++◌, ◌∷◌, [], OnOk, decimal};
 ghost use Rattle.std.specs.List.Sorted.{IsStrictlySortedBy};
 ghost use Rattle.std.specs.Map.{keys_of};
-ghost use Rattle.serde_json.specs.Written.{compact_text};
+ghost use Rattle.json.specs.Print.{quoted};
+ghost use Rattle.serde_json.specs.Written.{comma_if, compact_text};
 ghost use Rattle.alto_maps.specs.Shape.{group_object};
 ghost use Rattle.alto_rows.specs.Good.{AreGood};
 ghost use Rattle.alto_rows.specs.Order.{name_cmp};
@@ -17,14 +18,14 @@ use alto_maps::MapSource;
 use alto_names::{Metric, NetName, PidName};
 use alto_rows::RowStore;
 use cost_tables::{CostTables, CostsFrom, PidText};
-use doc_pieces::{Grouped, push_comma, push_name};
+use doc_pieces::{Grouped, push_name};
 use json_tree::Name;
 use std::alloc::{AllocError, Global};
 use std::marker::Model;
 use text_buffer::TextBuffer;
 
 /// Room for a member of a group, which few are longer than.
-const COMMON_LENGTH: usize = 16;
+const COMMON_LENGTH: usize = 24;
 
 /// The groups of the map of a network and a metric at good rows, written from tables that tell the costs of these rows:
 /// no row is read for them. A contract sees the rows and both names.
@@ -125,11 +126,33 @@ fn push_costs(costs: &CostsFrom<'_>, out: &mut TextBuffer) -> Result<(), AllocEr
     let mut later = false;
     let mut place = 0;
     while let Some((destination, cost)) = costs.pair(place) {
-        push_comma(later, out)?;
-        push_name(destination.as_str(), out)?;
-        out.push_number(cost)?;
+        push_cost(destination, cost, later, out)?;
         later = true;
         place += 1;
     }
     out.push(b"}")
+}
+
+/// Puts the cost to a destination as a member at the end of a text, behind a comma where one stands before. No byte of
+/// a PID is escaped, so none is looked at.
+fn push_cost(
+    destination: &PidName,
+    cost: u64,
+    later: bool,
+    out: &mut TextBuffer,
+) -> Result<(), AllocError>
+    ensures { OnOk result (out.new
+        ≡ out.old ++ (comma_if later ++ (quoted destination.now ++ 58 ∷ decimal cost))) }
+{
+    out.push(opening(later))?;
+    out.push(destination.as_bytes())?;
+    out.push(b"\":")?;
+    out.push_number(cost)
+}
+
+/// What stands before the name of a member.
+fn opening(later: bool) -> &'static [u8]
+    ensures { result.now ≡ comma_if later ++ 34 ∷ [] }
+{
+    if later { b",\"" } else { b"\"" }
 }

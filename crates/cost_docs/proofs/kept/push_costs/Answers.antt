@@ -1,11 +1,9 @@
 -- Each turn writes one cost, and the end the brace behind the last.
-use Rattle.std.proofs.Common.{◌≡◌, ◌++◌, ◌∷◌, ◌∙◌, None, Some, ap, option_map, slice_get, sym}
+use Rattle.std.proofs.Common.{◌≡◌, ◌++◌, ◌∙◌, None, Some, ap, option_map, slice_get, sym}
 use Rattle.std.proofs.lemmas.Result.{on_ok_weaker}
-use Rattle.std.specs.Prelude.{decimal}
-use Rattle.json.specs.Print.{quoted}
-use Rattle.serde_json.specs.Written.{comma_if, compact_text}
+use Rattle.serde_json.specs.Written.{compact_text}
 use Rattle.cost_docs.specs.Kept.{costs_object}
-use Rattle.cost_docs.proofs.KeptLemmas.{member_put, text_ended, text_more}
+use Rattle.cost_docs.proofs.KeptLemmas.{text_ended, text_more}
 use Rattle.cost_docs.proofs.kept.push_costs.Goals as goal
 
 pub loop-destination-preserved : goal.loop-destination-preserved
@@ -16,13 +14,10 @@ loop-destination-preserved c =
     let cost = c.in-Some.cost in
     let there : slice_get costs l.place ≡ Some (dst, cost) =
     sym c.pair.ensures ∙ ap (option_map (λ pair. (pair.0.now, pair.1))) c.in-Some.is in
-    let put : c.push_number.new.self ≡ l.out ++ (comma_if l.later ++ (quoted dst ++ 58 ∷ decimal cost)) =
-    member_put l.out c.push_comma.new.out c.push_name.new.out c.push_number.new.self dst cost l.later
-    c.in_ok-push_comma.ensures (rw c.as_str.ensures at c.in_ok-push_name.ensures) c.in_ok-push_number.ensures in
     record {
       all = l.invariant.all;
-      text = text_more l.out c.push_number.new.self (c.args.out.now ++ compact_text (costs_object costs)) costs l.place
-          (dst, cost) l.later there put l.invariant.text;
+      text = text_more l.out c.push_cost.new.out (c.args.out.now ++ compact_text (costs_object costs)) costs l.place
+          (dst, cost) l.later there c.in_ok-push_cost.ensures l.invariant.text;
     }
 
 pub returns-clause-text : goal.returns-clause-text
