@@ -234,8 +234,8 @@ def print_allocated(program, count):
             maps = "metro", *(f"metro:cost:{metric}" for metric in workloads.METRICS)
             text = sum(len(run.replies([workloads.get(f"/maps/{name}")])) for name in maps) / 2**20
             based = run.allocated()
-            # Most blocks of this size are chunks of 64 rows: a base that is read is cut into them.
-            rows = max(size * blocks for size, blocks in run.blocks().items() if size > 2**12) / 2**20
+            # Most blocks of this size are chunks of 32 rows: a base that is read is cut into them.
+            rows = max(size * blocks for size, blocks in run.blocks().items() if size > 2**11) / 2**20
     print(f"{'allocated':<38}{'MB':>20}  bytes a cost")
     parts = ("with the imports", imported), ("in the base", based), ("its rows", rows), ("its rows and texts", rows + text)
     for name, size in parts:

@@ -17,10 +17,10 @@ use std::alloc::{AllocError, Global};
 use std::marker::Model;
 
 /// How many rows a chunk of a list has at most.
-const MOST_ROWS: usize = 64;
+const MOST_ROWS: usize = 32;
 
 /// How many rows a chunk of a list has at least, where others follow and a write has touched it.
-const FEW_ROWS: usize = 16;
+const FEW_ROWS: usize = 8;
 
 /// Rows that lie together. A contract sees the rows.
 #[derive(Drop)]
@@ -39,7 +39,7 @@ impl Model for Chunk {
 impl Block for Chunk {
     ghost rows = { λ chunk. chunk };
 
-    ghost most = { 64 };
+    ghost most = { 32 };
 
     fn few_rows() -> usize {
         FEW_ROWS

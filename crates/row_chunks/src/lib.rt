@@ -1,14 +1,14 @@
-//! Rows that versions share: a store of rows in chunks of 1 to 64, of chunks in pages of 1 to 16, and of pages in
+//! Rows that versions share: a store of rows in chunks of 1 to 32, of chunks in pages of 1 to 16, and of pages in
 //! volumes of 1 to 16. A version that follows another makes anew only the chunks, pages and volumes that a write
 //! touches, and shares the rest.
 //!
 //! ```text
 //! first key    Epoch                                         Cost metro routingcost m k
-//! rows before  0                                             988
+//! rows before  0                                             494
 //! page         |                                             |
 //! first key    Epoch           Cost metro routingcost a k    Cost metro routingcost m k    Prop metro pid:k country
-//! rows before  0               64                            0                             57
-//! chunk        [64 rows]  ..   [62 rows]  ..                 [57 rows]  ..                 [45 rows]
+//! rows before  0               32                            0                             27
+//! chunk        [32 rows]  ..   [30 rows]  ..                 [27 rows]  ..                 [19 rows]
 //! ```
 //!
 //! First keys stand beside the pointers, so a search follows one pointer a level, and what is passed over isn't read.

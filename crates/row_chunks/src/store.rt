@@ -18,7 +18,7 @@ type Page = Blocks<Chunk>;
 /// Pages that are shared together: 1 to 16 of them.
 type Volume = Blocks<Page>;
 
-/// Rows in chunks that versions share: 1 to 64 rows in each. A contract sees them as one list, in the order of their
+/// Rows in chunks that versions share: 1 to 32 rows in each. A contract sees them as one list, in the order of their
 /// keys.
 #[derive(Drop)]
 pub struct Chunks {
@@ -93,9 +93,9 @@ impl RowStore for Chunks {
     /// One pass over the volumes and the writes, sorted by their keys, over the pages of each volume that a write
     /// touches and the chunks of each such page, and over the rows of each such chunk: v volumes, p such pages, c such
     /// chunks, r such rows and w writes cost v + p + c + r + w log w. Any other volume, page or chunk is shared, and
-    /// nothing of it is read. Where a touched chunk is left with less than 16 rows, the next of its page is touched
-    /// too, and joined with it; so is the page behind one that is left with less than 256, and the volume behind one
-    /// that is left with less than 4,096.
+    /// nothing of it is read. Where a touched chunk is left with less than 8 rows, the next of its page is touched
+    /// too, and joined with it; so is the page behind one that is left with less than 128, and the volume behind one
+    /// that is left with less than 2,048.
     fn with(&self, alloc: Global, writes: &[Write]) -> Result<Chunks, AllocError> {
         let changes = changes_of(alloc, writes)?;
         Ok(Chunks {

@@ -8,6 +8,6 @@ invariant-loop-piece l =
     record {
       whole : flat_map (λ chunk. chunk) l.chunks.items ++ flat_map (λ piece. piece.items) l.piece-iterator.rest.items
           ≡ l.fn.self;
-      small : AllByRecursion (λ chunk. length chunk ≤ 64) l.chunks.items;
-      within : AllByRecursion (λ piece. length piece.items ≤ 64) l.piece-iterator.rest.items;
+      small : AllByRecursion (λ chunk. length chunk ≤ 32) l.chunks.items;
+      within : AllByRecursion (λ piece. length piece.items ≤ 32) l.piece-iterator.rest.items;
     }
